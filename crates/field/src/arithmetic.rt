@@ -1,0 +1,42 @@
+// The arithmetic of the field that the number p means, on the field's elements: the numbers below p.
+// specs/Field.antt says which field that is (`fieldOf p`); proofs/Modular.antt shows its laws for
+// every prime p.
+
+ghost use mathlib.Core.Path.{_≡_};
+ghost use Prim.Native.Nat.{_≤_, _<_};
+ghost use Rattle.field.specs.Field.{fieldOf, minus};
+
+pub fn add(p: u32, a: u32, b: u32) -> u32
+    requires { ⌜ (p ≤ 65536) × (a < p) × (b < p) ⌝ }
+    ensures { λ r. ⌜ (r ≡ fieldOf p .add a b) × (r < p) ⌝ }
+{
+    let sum = a + b;
+    if sum < p {
+        return sum;
+    }
+    sum - p
+}
+
+pub fn neg(p: u32, a: u32) -> u32
+    requires { ⌜ (p ≤ 65536) × (a < p) ⌝ }
+    ensures { λ r. ⌜ (r ≡ fieldOf p .neg a) × (r < p) ⌝ }
+{
+    if a == 0 {
+        return 0;
+    }
+    p - a
+}
+
+pub fn sub(p: u32, a: u32, b: u32) -> u32
+    requires { ⌜ (p ≤ 65536) × (a < p) × (b < p) ⌝ }
+    ensures { λ r. ⌜ (r ≡ minus (fieldOf p) a b) × (r < p) ⌝ }
+{
+    add(p, a, neg(p, b))
+}
+
+pub fn mul(p: u32, a: u32, b: u32) -> u32
+    requires { ⌜ (p ≤ 65536) × (a < p) × (b < p) ⌝ }
+    ensures { λ r. ⌜ (r ≡ fieldOf p .mul a b) × (r < p) ⌝ }
+{
+    a * b % p
+}

@@ -1,0 +1,5 @@
+pub mod All
+pub mod Word
+pub mod Order
+pub mod Weighted
+pub mod Place
