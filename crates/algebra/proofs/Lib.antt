@@ -1,0 +1,12 @@
+-- The theorems, and the laws that later crates cite.
+pub mod Coefficients
+pub mod Lines
+pub mod Sums
+pub mod Leading
+pub mod Descent
+pub mod Apart
+pub mod Resolution
+pub mod Insertion
+pub mod WrittenForm
+pub mod Uniqueness
+pub mod AnyOrder

@@ -1,0 +1,6 @@
+pub mod Poly
+pub mod Written
+pub mod Ideal
+pub mod Groebner
+pub mod Short
+pub mod Rewriting
