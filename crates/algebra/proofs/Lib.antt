@@ -10,3 +10,4 @@ pub mod Insertion
 pub mod WrittenForm
 pub mod Uniqueness
 pub mod AnyOrder
+pub mod Spots

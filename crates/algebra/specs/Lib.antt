@@ -4,3 +4,4 @@ pub mod Ideal
 pub mod Groebner
 pub mod Short
 pub mod Rewriting
+pub mod Spot
