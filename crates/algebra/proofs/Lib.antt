@@ -11,3 +11,4 @@ pub mod WrittenForm
 pub mod Uniqueness
 pub mod AnyOrder
 pub mod Spots
+pub mod Running

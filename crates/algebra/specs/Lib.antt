@@ -5,3 +5,4 @@ pub mod Groebner
 pub mod Short
 pub mod Rewriting
 pub mod Spot
+pub mod Steps

@@ -1,0 +1,3 @@
+-- That the list holds each overlap once, in its order, and none else.
+pub mod Listed
+pub mod Certification

@@ -1,0 +1,1 @@
+// Overlaps of leading words (document 01, 'Overlaps').
