@@ -30,7 +30,7 @@ module _ (u v : Word) where
 
   shares-eq : (n : ℕ) → shares u v n ≡ true → drop (length u - n) u ≡ take n v
   unfolding shares
-  shares-eq n e = eq-of-same-word (drop (length u - n) u) (take n v) e
+  shares-eq n e = sym (eq-of-same-word (take n v) (drop (length u - n) u) e)
 
   -- what holds of the overlaps from s on, through k numbers
   record From (i j s k : ℕ) (o : Overlap) : Type 0 where

@@ -1,1 +1,2 @@
 pub mod Overlaps
+pub mod Position

@@ -43,7 +43,7 @@ pub data Rising : List Overlap → Type 0 where
 -- The last n letters of u are the first n of v.
 unfoldable pub shares : Word → Word → ℕ → Bool
 unfolding sameWord
-shares u v n = sameWord (drop (length u - n) u) (take n v)
+shares u v n = sameWord (take n v) (drop (length u - n) u)
 
 -- The overlaps of polynomials i and j with leading words u and v: shared rises from s on, through k numbers.
 unfoldable pub overlapsFrom : Word → Word → ℕ → ℕ → ℕ → ℕ → List Overlap

@@ -6,4 +6,5 @@ pub mod Lexicographic
 pub mod WeightedOrder
 pub mod WordOrder
 pub mod Standing
-mod Turns
+pub mod LaidWords
+pub mod Turns

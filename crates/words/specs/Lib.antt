@@ -3,3 +3,4 @@ pub mod Word
 pub mod Order
 pub mod Weighted
 pub mod Place
+pub mod Laid

@@ -1,0 +1,9 @@
+pub mod Bytewise
+pub mod Cutting
+pub mod Digits
+pub mod FieldReading
+pub mod Decimal
+pub mod Stores
+pub mod NumberTexts
+pub mod WordTexts
+pub mod PieceTexts

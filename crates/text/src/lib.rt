@@ -1,0 +1,32 @@
+// Texts: lines and fields, decimal numbers and words, read from slices of bytes and written to them.
+// A reader of a field answers what the field says and the place behind it; a writer answers the place behind what it wrote.
+
+pub mod bytes;
+pub mod kind;
+pub mod number;
+pub mod word;
+pub mod write;
+
+// What a field says as a number: no number, or its value.
+pub enum Num {
+    Wrong,
+    Value(u32),
+}
+
+// A number field with another field behind it: its value, and the place where that one starts.
+pub enum NumAt {
+    Unread,
+    Read { value: u32, next: usize },
+}
+
+// What a field says as a word: no word, or the number of its letters, which are the field's first bytes.
+pub enum WordLen {
+    NoWord,
+    Letters(usize),
+}
+
+// A word field with another field behind it: the number of its letters, and the place where that one starts.
+pub enum WordAt {
+    NoWordAt,
+    Spans { len: usize, next: usize },
+}
