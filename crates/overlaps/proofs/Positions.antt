@@ -154,9 +154,9 @@ module _ (ws : List Word) where
         -- the second word goes on
         same-row : suc (c .second) < length ws → overlapsAt ws (record { first = c .first; second = suc (c .second); shared = 1 }) ≡ overlapsAt ws c
         same-row l = rw (none-here e, drop-cons ws (suc (c .second)) [] l) (sym (append-assoc
-              (overlapsOf firstWord (getD ws (suc (c .second)) []) (suc (c .first)) (suc (suc (c .second))))
-              (withFirst firstWord (suc (c .first)) (drop (suc (suc (c .second))) ws) (suc (suc (suc (c .second)))))
-              lower))
+            (overlapsOf firstWord (getD ws (suc (c .second)) []) (suc (c .first)) (suc (suc (c .second))))
+            (withFirst firstWord (suc (c .first)) (drop (suc (suc (c .second))) ws) (suc (suc (suc (c .second)))))
+            lower))
 
         -- the first word goes on
         next-row : length ws ≤ suc (c .second) → suc (c .first) < length ws → overlapsAt ws (record { first = suc (c .first); second = 0; shared = 1 }) ≡ overlapsAt ws c
@@ -164,17 +164,24 @@ module _ (ws : List Word) where
             let z : 0 < length ws = omega arith in
             rw (none-here e, drop-of-length-le ws l, drop-cons ws (suc (c .first)) [] m)
             (sym (ap (λ (vs : List Word). withFirst (getD ws (suc (c .first)) []) k vs 1 ++ fromFirst ws (drop k ws) (suc k)) (drop-cons ws 0 [] z)
-              ∙ append-assoc
-                (overlapsOf (getD ws (suc (c .first)) []) (getD ws 0 []) k 1)
-                (withFirst (getD ws (suc (c .first)) []) k (drop 1 ws) 2)
-                (fromFirst ws (drop k ws) (suc k))))
+            ∙ append-assoc
+            (overlapsOf (getD ws (suc (c .first)) []) (getD ws 0 []) k 1)
+            (withFirst (getD ws (suc (c .first)) []) k (drop 1 ws) 2)
+            (fromFirst ws (drop k ws) (suc k))))
 
         -- no word is left
         no-row : length ws ≤ suc (c .second) → length ws ≤ suc (c .first) → overlapsAt ws (record { first = suc (c .first); second = 0; shared = 1 }) ≡ overlapsAt ws c
         no-row l m =
             let n : length ws ≤ k = omega arith in
-            rw (none-here e, drop-of-length-le ws l, drop-of-length-le ws m, drop-of-length-le ws n, List·getD-eq-default ws [] m,
-              from-empty (getD ws 0 []) k 1 1, none-empty k (drop 1 ws) 2)
+            rw (
+              none-here e,
+              drop-of-length-le ws l,
+              drop-of-length-le ws m,
+              drop-of-length-le ws n,
+              List·getD-eq-default ws [] m,
+              from-empty (getD ws 0 []) k 1 1,
+              none-empty k (drop 1 ws) 2,
+            )
 
         go : Dec (suc (c .second) < length ws) → Dec (suc (c .first) < length ws) → overlapsAt ws (pairAfter c (length ws)) ≡ overlapsAt ws c
         go (yes l) d = rw (pairAfter, lt-ltb (suc (c .second)) (length ws) l) (same-row l)
@@ -189,8 +196,12 @@ module _ (ws : List Word) where
   unfolding overlapsAt fromFirst
   at-end c h =
       let n : length ws ≤ suc (c .first) = omega arith in
-      rw (List·getD-eq-default ws [] h, from-empty (getD ws (c .second) []) (suc (c .first)) (suc (c .second)) (c .shared),
-        none-empty (suc (c .first)) (drop (suc (c .second)) ws) (suc (suc (c .second))), drop-of-length-le ws n)
+      rw (
+        List·getD-eq-default ws [] h,
+        from-empty (getD ws (c .second) []) (suc (c .first)) (suc (c .second)) (c .shared),
+        none-empty (suc (c .first)) (drop (suc (c .second)) ws) (suc (suc (c .second))),
+        drop-of-length-le ws n,
+      )
 
 -- the pair behind, as the code has it
 module _ (c : Cursor) (n : ℕ) where

@@ -30,7 +30,7 @@ unfoldable pub overlapsAt : List Word → Cursor → List O.Overlap
 unfolding overlapsFrom withFirst fromFirst
 overlapsAt ws c =
     overlapsFrom (getD ws (c .first) []) (getD ws (c .second) []) (suc (c .first)) (suc (c .second)) (c .shared)
-      (min (length (getD ws (c .first) [])) (length (getD ws (c .second) [])) - c .shared)
+    (min (length (getD ws (c .first) [])) (length (getD ws (c .second) [])) - c .shared)
     ++ (withFirst (getD ws (c .first) []) (suc (c .first)) (drop (suc (c .second)) ws) (suc (suc (c .second)))
     ++ fromFirst ws (drop (suc (c .first)) ws) (suc (suc (c .first))))
 

@@ -17,9 +17,17 @@ fn next_pair(c: Cursor, n: usize) -> Cursor
     let first = c.first;
     let second = c.second + 1;
     if second < n {
-        return Cursor { first: first, second: second, shared: 1 };
+        return Cursor {
+            first: first,
+            second: second,
+            shared: 1,
+        };
     }
-    Cursor { first: first + 1, second: 0, shared: 1 }
+    Cursor {
+        first: first + 1,
+        second: 0,
+        shared: 1,
+    }
 }
 
 // The next number of letters that the two words of a place share.

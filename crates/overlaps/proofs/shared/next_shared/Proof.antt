@@ -38,7 +38,7 @@ returns : tie.Need-returns Inv-loop μ-loop
 returns c =
     let l = c .before .before .before in
     sym (sym (l .loop .inv .1)
-      ∙ shared-here _ _ _ (l .loop .n) (omega arith) (sym (c .before .is-shared .ensures) ∙ c .if1 .taken))
+    ∙ shared-here _ _ _ (l .loop .n) (omega arith) (sym (c .before .is-shared .ensures) ∙ c .if1 .taken))
 
 -- src/shared.rt:38:9
 add-n : tie.Need-add-n Inv-loop μ-loop

@@ -1,0 +1,139 @@
+-- The check: the first refusal of 8 to 15 in document 01's order, or none.
+use mathlib.Core.Bool.{Bool, true, false, not, _&&_}
+use mathlib.Core.List.{List, [], _∷_}
+use Prim.Native.Nat.{ℕ, zero, suc}
+use lib.Dec.{eqb, ltb}
+use lib.ListN.{length}
+use Rattle.field.specs.Field.{Operations, fieldOf}
+use Rattle.words.specs.declared.Comparison.the-variants.{Below, Equal, Above}
+use Rattle.words.specs.declared.Found.the-variants.{At, Nowhere}
+use Rattle.words.specs.Word.{Word}
+use Rattle.words.specs.Order.{Order, wordOrder}
+use Rattle.words.specs.Place.{leftmost}
+use Rattle.algebra.specs.Poly.{Poly}
+use Rattle.algebra.specs.Written.{written}
+use Rattle.algebra.specs.Ideal.{Family, family}
+use Rattle.algebra.specs.Groebner.{lead, leadCoef, top}
+use Rattle.algebra.specs.Steps.{takeAway}
+use Rattle.overlaps.specs.Overlaps as O
+use Rattle.overlaps.specs.Overlaps.{leads, overlaps, overlapWord, difference}
+use Rattle.package.specs.Sums.{SumLine}
+use Rattle.package.specs.Package.{Package}
+use Rattle.acceptance.specs.Content.{relations, basis, lineOf, sumOf}
+
+-- Refused with number and place, or not.
+pub data Verdict : Type 0 where
+  refusal : ℕ → ℕ → Verdict
+  fine : Verdict
+
+-- A verdict, and where it is no refusal the next.
+unfoldable pub thenJudge : Verdict → Verdict → Verdict
+thenJudge (refusal n k) v = refusal n k
+thenJudge fine v = v
+
+-- 8: the first polynomial, numbered from i on, that is zero or does not lead with 1.
+unfoldable pub leadsJudged : List Poly → ℕ → Verdict
+leadsJudged [] i = fine
+leadsJudged ([] ∷ ps) i = refusal 8 i
+leadsJudged ((t ∷ f) ∷ ps) i = elim (eqb (t .coef) 1) [ true ↦ leadsJudged ps (suc i) | false ↦ refusal 8 i ]
+
+-- A word of the list, numbered from j on, that is not number i stands inside u.
+unfoldable pub holdsOther : Word → ℕ → List Word → ℕ → Bool
+unfolding leftmost
+holdsOther u i [] j = false
+holdsOther u i (v ∷ vs) j = elim (eqb i j) [
+  | true ↦ holdsOther u i vs (suc j)
+  | false ↦ elim (leftmost v u) [ At k ↦ true | Nowhere ↦ holdsOther u i vs (suc j) ]
+]
+
+-- 9: the first leading word, numbered from i on, that holds another's.
+unfoldable pub apartJudged : List Word → List Word → ℕ → Verdict
+unfolding holdsOther
+apartJudged all [] i = fine
+apartJudged all (u ∷ us) i = elim (holdsOther u i all 1) [ true ↦ refusal 9 i | false ↦ apartJudged all us (suc i) ]
+
+-- What is left of a polynomial when lines are taken away: a line leaves over 512 terms, or the rest.
+pub data Left : Type 0 where
+  over : ℕ → Left
+  rest : Poly → Left
+
+-- The lines taken away one after the other; 10 is judged after each.
+unfoldable pub lessLines : Operations → Order → Family → Poly → List SumLine → Left
+unfolding takeAway
+lessLines K O G f [] = rest f
+lessLines K O G f (s ∷ ss) = elim (ltb 512 (length (takeAway K O G f (lineOf s)))) [
+  | true ↦ over (s .line)
+  | false ↦ lessLines K O G (takeAway K O G f (lineOf s)) ss
+]
+
+-- A line that leaves over 512 terms gives 10; at the item's end a nonzero rest gives number n at the item.
+unfoldable pub sumVerdict : ℕ → ℕ → Left → Verdict
+sumVerdict n i (over line) = refusal 10 line
+sumVerdict n i (rest []) = fine
+sumVerdict n i (rest (t ∷ f)) = refusal n i
+
+-- The sums of kind k, for targets numbered from i on, over the polynomials of G; a wrong sum gives number n.
+unfoldable pub sumsJudged : ℕ → ℕ → Operations → Order → Family → List SumLine → List Poly → ℕ → Verdict
+unfolding sumVerdict lessLines sumOf thenJudge
+sumsJudged n k K O G ss [] i = fine
+sumsJudged n k K O G ss (f ∷ fs) i = thenJudge (sumVerdict n i (lessLines K O G f (sumOf k i ss))) (sumsJudged n k K O G ss fs (suc i))
+
+-- 15: the first O line whose item is above the overlap count.
+unfoldable pub itemsJudged : ℕ → List SumLine → Verdict
+itemsJudged count [] = fine
+itemsJudged count (s ∷ ss) = elim (eqb (s .kind) 3) [
+  | false ↦ itemsJudged count ss
+  | true ↦ elim (ltb count (s .item)) [ true ↦ refusal 15 (s .line) | false ↦ itemsJudged count ss ]
+]
+
+-- An overlap's lines: a line that is not below the overlap word, over 512 terms, or the rest.
+pub data Certified : Type 0 where
+  notBelow : ℕ → Certified
+  certified : Left → Certified
+
+-- The lines of an overlap with word m: each line 14 before 10.
+unfoldable pub lessBelow : Operations → Order → Family → Word → Poly → List SumLine → Certified
+unfolding takeAway top
+lessBelow K O G m f [] = certified (rest f)
+lessBelow K O G m f (s ∷ ss) = elim (O (top G (lineOf s)) m) [
+  | Equal ↦ notBelow (s .line)
+  | Above ↦ notBelow (s .line)
+  | Below ↦ elim (ltb 512 (length (takeAway K O G f (lineOf s)))) [
+    | true ↦ certified (over (s .line))
+    | false ↦ lessBelow K O G m (takeAway K O G f (lineOf s)) ss
+  ]
+]
+
+-- 14, 10, and at the item's end 13.
+unfoldable pub overlapVerdict : ℕ → Certified → Verdict
+unfolding sumVerdict
+overlapVerdict i (notBelow line) = refusal 14 line
+overlapVerdict i (certified l) = sumVerdict 13 i l
+
+-- The overlaps, numbered from i on.
+unfoldable pub overlapsJudged : Operations → Order → Family → List SumLine → List O.Overlap → ℕ → Verdict
+unfolding overlapVerdict lessBelow sumOf thenJudge written difference overlapWord
+overlapsJudged K O G ss [] i = fine
+overlapsJudged K O G ss (o ∷ os) i =
+    thenJudge
+    (overlapVerdict i (lessBelow K O G (overlapWord G o) (written K O (difference K G o)) (sumOf 3 i ss)))
+    (overlapsJudged K O G ss os (suc i))
+
+-- 8 for all items, then 9 for all: what listing judges too.
+unfoldable pub basisJudged : List Poly → Verdict
+unfolding leadsJudged apartJudged leads thenJudge
+basisJudged ps = thenJudge (leadsJudged ps 1) (apartJudged (leads ps) (leads ps) 1)
+
+-- B items with 10 and 11; G items with 10 and 12; then 15; then O items.
+unfoldable pub sumsVerdict : Operations → Order → List Poly → List Poly → List SumLine → Verdict
+unfolding sumsJudged itemsJudged overlapsJudged thenJudge leads overlaps family
+sumsVerdict K O rs ps ss =
+    thenJudge (sumsJudged 11 1 K O (family rs) ss ps 1)
+    (thenJudge (sumsJudged 12 2 K O (family ps) ss rs 1)
+    (thenJudge (itemsJudged (length (overlaps (leads ps))) ss)
+    (overlapsJudged K O (family ps) ss (overlaps (leads ps)) 1)))
+
+-- The check of a package that reads.
+unfoldable pub checked : Package → Verdict
+unfolding basisJudged sumsVerdict thenJudge relations basis fieldOf wordOrder
+checked P = thenJudge (basisJudged (basis P)) (sumsVerdict (fieldOf (P .head .p)) wordOrder (relations P) (basis P) (P .sums))

@@ -1,0 +1,120 @@
+-- Laws of the table in the making: what a mark more does to it, one law for each way through the turns of `fill_word` and `fill`.
+use mathlib.Core.Path.{_≡_, refl, sym, ap, _∙_}
+use mathlib.Core.List.{List, []}
+use Prim.Native.Nat.{ℕ, zero, suc, _+_, _-_, _*_, _^_, _≤_, _<_}
+use native.Mathlib.Decide.{ℕ-discrete}
+use native.Mathlib.Nat.{add-zero}
+use native.Mathlib.Omega.{arith}
+use lib.ListN.{length, getD, set, length-set}
+use lib.Seq.{getD-set-same, getD-set-other}
+use lib.Bits.{bitOr}
+use Rattle.words.specs.Word.{Word}
+use Rattle.leads.specs.Masks.{bit}
+use Rattle.leads.specs.Index.{column, columnIn, Marked, HasMark, withMark, Blank, Indexable, Indexed, Holds}
+use Rattle.leads.proofs.Bits.{bit-zero, bit-new, bit-kept, bit-old}
+use Rattle.leads.proofs.Columns.{column-range, column-at, column-behind}
+
+-- a mark more, at a place of the table: it is there, the others are kept, and there is no other
+module _ (t : List ℕ) (at g : ℕ) (inside : at < length t) where
+  at-same : (i : ℕ) → i ≡ at → getD (withMark t at g) i 0 ≡ bitOr (getD t i 0) (2 ^ g)
+  at-same i e = rw e (getD-set-same t at (bitOr (getD t at 0) (2 ^ g)) 0 inside)
+
+  at-other : (i : ℕ) → (i ≡ at → ⊥) → getD (withMark t at g) i 0 ≡ getD t i 0
+  at-other i e = getD-set-other t at i (bitOr (getD t at 0) (2 ^ g)) 0 e
+
+  mark-new : (i : ℕ) → i ≡ at → bit (getD (withMark t at g) i 0) g ≡ 1
+  mark-new i e = rw (at-same i e) (bit-new (getD t i 0) g)
+
+  mark-kept : (i j : ℕ) → bit (getD t i 0) j ≡ 1 → bit (getD (withMark t at g) i 0) j ≡ 1
+  mark-kept i j b = go (ℕ-discrete i at)
+    where
+      go : Dec (i ≡ at) → bit (getD (withMark t at g) i 0) j ≡ 1
+      go (yes e) = rw (at-same i e) (bit-kept (getD t i 0) g j b)
+      go (no e) = rw (at-other i e) b
+
+  mark-elsewhere : (i j : ℕ) → (i ≡ at → ⊥) → bit (getD (withMark t at g) i 0) j ≡ 1 → bit (getD t i 0) j ≡ 1
+  mark-elsewhere i j e b = rw (at-other i e) at b
+
+  mark-of-other : (i j : ℕ) → i ≡ at → (j ≡ g → ⊥) → bit (getD (withMark t at g) i 0) j ≡ 1 → bit (getD t i 0) j ≡ 1
+  mark-of-other i j e d b = bit-old (getD t i 0) g j d (rw (at-same i e) at b)
+
+-- a blank table holds no row
+pub holds-start : (ls : List Word) (t : List ℕ) → Blank t → Holds ls 0 t
+holds-start ls t b = record {
+  room = b .room;
+  held = λ g k x h. absurd (omega arith);
+  only = λ g k x p q m. absurd (bit-zero g (rw (b .zeros (k * 32 + x)) at m));
+}
+
+module _ (ls : List Word) (g k : ℕ) (t : List ℕ) (h : Holds ls (g * 25 + k) t) where
+  -- word g's mark in row k
+  holds-next : k < 25 → k ≤ length (getD ls g []) → (x : ℕ) → x < 32 → columnIn (getD ls g []) k ≡ x
+      → Holds ls (g * 25 + (k + 1)) (withMark t (k * 32 + x) g)
+  holds-next few row x low at = record {
+    room = rw length-set (h .room);
+    held = λ j q y p r s m. held j q y p r s m (ℕ-discrete (j * 25 + q) (g * 25 + k));
+    only = λ j q y r s b. only j q y r s b (ℕ-discrete (q * 32 + y) (k * 32 + x)) (ℕ-discrete j g);
+  }
+    where
+      inside : k * 32 + x < length t
+      inside = let r = h .room in omega arith
+
+      held : (j q y : ℕ) → j * 25 + q < g * 25 + (k + 1) → q < 25 → y < 32 → Marked (getD ls j []) q y → Dec (j * 25 + q ≡ g * 25 + k)
+          → HasMark (withMark t (k * 32 + x) g) j q y
+      held j q y p r s m (no d) = mark-kept t (k * 32 + x) g inside (q * 32 + y) j (h .held j q y (omega arith) r s m)
+      held j q y p r s m (yes d) =
+          let e : j ≡ g = omega arith in
+          let f : q ≡ k = omega arith in
+          let z : x ≡ y = sym at ∙ ap (λ (i : ℕ). columnIn (getD ls i []) k) (sym e) ∙ ap (columnIn (getD ls j [])) (sym f) ∙ m .at in
+          rw e (mark-new t (k * 32 + x) g inside (q * 32 + y) (omega arith))
+
+      only : (j q y : ℕ) → q < 25 → y < 32 → HasMark (withMark t (k * 32 + x) g) j q y → Dec (q * 32 + y ≡ k * 32 + x) → Dec (j ≡ g)
+          → (j * 25 + q < g * 25 + (k + 1)) × Marked (getD ls j []) q y
+      only j q y r s b (no e) d = wider (h .only j q y r s (mark-elsewhere t (k * 32 + x) g inside (q * 32 + y) j e b))
+        where
+          wider : (j * 25 + q < g * 25 + k) × Marked (getD ls j []) q y → (j * 25 + q < g * 25 + (k + 1)) × Marked (getD ls j []) q y
+          wider (p, m) = (omega arith, m)
+      only j q y r s b (yes e) (no d) = wider (h .only j q y r s (mark-of-other t (k * 32 + x) g inside (q * 32 + y) j e d b))
+        where
+          wider : (j * 25 + q < g * 25 + k) × Marked (getD ls j []) q y → (j * 25 + q < g * 25 + (k + 1)) × Marked (getD ls j []) q y
+          wider (p, m) = (omega arith, m)
+      only j q y r s b (yes e) (yes d) =
+          let f : q ≡ k = omega arith in
+          let z : y ≡ x = omega arith in
+          (omega arith, rw (d, f, z) (record { row = row; at = at }))
+
+  -- word g has no mark in the rows from k on
+  holds-rest : k ≤ 25 → length (getD ls g []) < k → Holds ls (g * 25 + 25) t
+  holds-rest few past = record {
+    room = h .room;
+    held = λ j q y p r s m. held j q y p r s m (ℕ-discrete j g);
+    only = λ j q y r s b. let (p, m) = h .only j q y r s b in (omega arith, m);
+  }
+    where
+      held : (j q y : ℕ) → j * 25 + q < g * 25 + 25 → q < 25 → y < 32 → Marked (getD ls j []) q y → Dec (j ≡ g) → HasMark t j q y
+      held j q y p r s m (no d) = h .held j q y (omega arith) r s m
+      held j q y p r s m (yes e) =
+          let c : q ≤ length (getD ls g []) = rw e at (m .row) in
+          h .held j q y (omega arith) r s m
+
+-- the marks of word g, letter after letter, and the one behind the last
+module _ (ls : List Word) (g k : ℕ) (t : List ℕ) (word : Word) (e : getD ls g [] ≡ word) (short : length word ≤ 24) (h : Holds ls (g * 25 + k) t) where
+  pub letter-marked : (x : ℕ) → k < length word → x ≡ column (getD word k 0) → Holds ls (g * 25 + (k + 1)) (withMark t (k * 32 + x) g)
+  letter-marked x l c =
+      let low = column-range (getD word k 0) .1 in
+      holds-next ls g k t h (omega arith) (rw e (omega arith)) x (omega arith) (rw e (column-at word k l ∙ sym c))
+
+  pub end-marked : k ≡ length word → Holds ls (g * 25 + 25) (withMark t (k * 32) g)
+  end-marked l =
+      let z : k * 32 + 0 ≡ k * 32 = add-zero (k * 32) in
+      let n = holds-next ls g k t h (omega arith) (rw e (omega arith)) 0 (omega arith) (rw e (column-behind word k (omega arith))) in
+      holds-rest ls g (k + 1) (withMark t (k * 32) g) (rw z at n) (omega arith) (rw e (omega arith))
+
+-- all rows of all words are done
+pub holds-end : (ls : List Word) (n : ℕ) (t : List ℕ) → n ≡ length ls → Indexable ls → Holds ls (n * 25) t → Indexed ls t
+holds-end ls n t e i h = record {
+  words = i;
+  room = h .room;
+  held = λ g k x p q r m. h .held g k x (omega arith) q r m;
+  only = λ g k x q r b. let (p, m) = h .only g k x q r b in (omega arith, m);
+}

@@ -1,0 +1,101 @@
+-- The leftmost place of a word of a list: the turns of the search, place after place, and that the spot of the leading words is the spot of their polynomials.
+use mathlib.Core.Path.{_≡_, refl, sym, ap, _∙_}
+use mathlib.Core.Bool.{Bool, true, false, true≢false}
+use mathlib.Core.Logic.{_≢_}
+use mathlib.Core.Option.{Option, none, some}
+use mathlib.Core.List.{List, [], _∷_, map}
+use Prim.Native.Nat.{ℕ, zero, suc, _+_, _-_, _≤_, _<_}
+use native.Mathlib.Numerals.{add-one}
+use native.Mathlib.Omega.{arith}
+use lib.ListN.{length, getD, take, drop, length-drop, drop-of-length-le}
+use lib.Seq.{drop-cons, take-all}
+use Rattle.words.specs.All.{All, done, _also_}
+use Rattle.words.specs.Word.{Word}
+use Rattle.words.specs.Place.{begins}
+use Rattle.algebra.specs.Poly.{Poly}
+use Rattle.algebra.specs.Groebner.{lead}
+use Rattle.algebra.specs.Spot.{Spot, nowhere, found, spotAt, firstBegins, spotFrom, spot}
+use Rattle.leads.specs.Masks.{bit, LowestBit}
+use Rattle.leads.specs.SpotOfWords.{BegunBy, firstBeginning, spotOfWordsFrom, spotOfWords}
+use Rattle.leads.proofs.Bits.{bit-zero}
+
+not-true : (b : Bool) → (b ≡ true → ⊥) → b ≡ false
+not-true true n = absurd (n refl)
+not-true false n = refl
+
+-- the first word that v begins with
+first-at : (ls : List Word) (n g : ℕ) (v : Word) → g < length ls → begins (getD ls g []) v ≡ true → ((j : ℕ) → j < g → begins (getD ls j []) v ≡ true → ⊥)
+    → firstBeginning ls n v ≡ some (n + g)
+unfolding firstBeginning
+first-at [] n g v h e b = absurd (omega arith)
+first-at (l ∷ ls) n zero v h e b = let z : n + 0 ≡ n = omega arith in rw (firstBeginning, e, z)
+first-at (l ∷ ls) n (suc g) v h e b =
+    let z : n + suc g ≡ suc n + g = omega arith in
+    rw (firstBeginning, not-true (begins l v) (b 0 (omega arith)), z) (first-at ls (suc n) g v (omega arith) e (λ j q. b (suc j) (omega arith)))
+
+first-none : (ls : List Word) (n : ℕ) (v : Word) → ((j : ℕ) → j < length ls → begins (getD ls j []) v ≡ true → ⊥) → firstBeginning ls n v ≡ none
+unfolding firstBeginning
+first-none [] n v b = refl
+first-none (l ∷ ls) n v b = rw (firstBeginning, not-true (begins l v) (b 0 (omega arith))) (first-none ls (suc n) v (λ j q. b (suc j) (omega arith)))
+
+-- the lowest bit is the first word, and without bits there is none
+first-lowest : (ls : List Word) (v : Word) (m g : ℕ) → BegunBy ls v m → LowestBit m g → firstBeginning ls 1 v ≡ some (g + 1)
+first-lowest ls v m g b l =
+    let (h, e) = b g .0 (l .set) in
+    let z : 1 + g ≡ g + 1 = omega arith in
+    rw z at (first-at ls 1 g v h e (λ j q d. l .lowest j q (b j .1 (omega arith, d))))
+
+first-zero : (ls : List Word) (v : Word) (m : ℕ) → BegunBy ls v m → m ≡ 0 → firstBeginning ls 1 v ≡ none
+first-zero ls v m b e = first-none ls 1 v (λ j q d. bit-zero j (rw e at (b j .1 (q, d))))
+
+spot-some : (ls : List Word) (w : Word) (i n : ℕ) → firstBeginning ls 1 w ≡ some n → spotOfWordsFrom ls w i ≡ found i n
+unfolding spotOfWordsFrom spotAt
+spot-some ls [] i n e = rw (spotOfWordsFrom, e)
+spot-some ls (a ∷ w) i n e = rw (spotOfWordsFrom, e)
+
+pub spot-start : (ls : List Word) (w : Word) → spotOfWordsFrom ls (drop 0 w) 0 ≡ spotOfWords ls w
+unfolding spotOfWords
+spot-start ls w = refl
+
+-- the part of w from place i on is what follows its first i letters
+pub begun-rest : (ls : List Word) (w : Word) (i m : ℕ) → BegunBy ls (take (length w - i) (drop i w)) m → BegunBy ls (drop i w) m
+begun-rest ls w i m b = let e = length-drop i w in let z : take (length w - i) (drop i w) ≡ drop i w = take-all (length w - i) (drop i w) (omega arith) in rw z at b
+
+-- the turn at place i, where m is the mask of the words that stand there
+module _ (ls : List Word) (w : Word) (i m : ℕ) (b : BegunBy ls (drop i w) m) where
+  pub spot-here : (g : ℕ) → LowestBit m g → spotOfWordsFrom ls (drop i w) i ≡ found i (g + 1)
+  spot-here g l = spot-some ls (drop i w) i (g + 1) (first-lowest ls (drop i w) m g b l)
+
+  pub spot-later : m ≡ 0 → i < length w → spotOfWordsFrom ls (drop (i + 1) w) (i + 1) ≡ spotOfWordsFrom ls (drop i w) i
+  unfolding spotOfWordsFrom spotAt
+  spot-later e h =
+      let c = drop-cons w i 0 h in
+      let n = first-zero ls (drop i w) m b e in
+      rw (c, spotOfWordsFrom, rw c at n, add-one i)
+
+  pub spot-end : m ≡ 0 → length w ≤ i → spotOfWordsFrom ls (drop i w) i ≡ nowhere
+  unfolding spotOfWordsFrom spotAt
+  spot-end e h =
+      let c = drop-of-length-le w h in
+      let n = first-zero ls (drop i w) m b e in
+      rw (c, spotOfWordsFrom, rw c at n)
+
+first-of-leads : (ps : List Poly) → All (λ f. f ≢ []) ps → (n : ℕ) (w : Word) → firstBeginning (map lead ps) n w ≡ firstBegins ps n w
+unfolding firstBeginning firstBegins lead
+first-of-leads [] h n w = refl
+first-of-leads ([] ∷ ps) (p also q) n w = absurd (p refl)
+first-of-leads ((t ∷ f) ∷ ps) (p also q) n w = go (begins (t .word) w) (first-of-leads ps q (suc n) w)
+  where
+    go : (b : Bool) → {x y : Option ℕ} → x ≡ y → _≡_ {A = Option ℕ} (elim b [ true ↦ some n | false ↦ x ]) (elim b [ true ↦ some n | false ↦ y ])
+    go true e = refl
+    go false e = e
+
+from-of-leads : (ps : List Poly) → All (λ f. f ≢ []) ps → (w : Word) (i : ℕ) → spotOfWordsFrom (map lead ps) w i ≡ spotFrom ps w i
+unfolding spotOfWordsFrom spotFrom
+from-of-leads ps h [] i = rw (first-of-leads ps h 1 [])
+from-of-leads ps h (a ∷ w) i = rw (first-of-leads ps h 1 (a ∷ w), from-of-leads ps h w (suc i))
+
+-- the spot of the leading words is the spot of the polynomials that they lead
+pub spot-of-leads : (ps : List Poly) → All (λ f. f ≢ []) ps → (w : Word) → spotOfWords (map lead ps) w ≡ spot ps w
+unfolding spotOfWords spot
+spot-of-leads ps h w = from-of-leads ps h w 0

@@ -1,0 +1,5 @@
+-- What this crate's contracts cite.
+pub mod Masks
+pub mod Leads
+pub mod Index
+pub mod SpotOfWords

@@ -1,0 +1,38 @@
+// Masks of 64 bits, and the columns of the table.
+
+ghost use mathlib.Core.Path.{_≡_};
+ghost use Prim.Native.Nat.{_^_, _<_};
+ghost use lib.Bits.{bitOr};
+ghost use Rattle.leads.specs.Masks.{LowestBit};
+ghost use Rattle.leads.specs.Index.{column};
+
+// The mask with bit g as well.
+pub fn with_bit(m: u64, g: usize) -> u64
+    requires { ⌜ g < 64 ⌝ }
+    ensures { λ r. ⌜ r ≡ bitOr m (2 ^ g) ⌝ }
+{
+    m | (1 << g)
+}
+
+// The lowest bit of a mask that has one.
+pub fn lowest(m: u64) -> usize
+    requires { ⌜ (m ≡ 0 → ⊥) ⌝ }
+    ensures { λ r. ⌜ (r < 64) × LowestBit m r ⌝ }
+{
+    u64::trailing_zeros(m) as usize
+}
+
+// The column of a byte: 1 to 26 for the letters, 27 for any other, where no word is marked.
+pub fn column(a: u8) -> usize
+    ensures { λ r. ⌜ r ≡ column a ⌝ }
+    ensures { λ r. ⌜ r < 32 ⌝ }
+{
+    let c = a as usize;
+    if c < 97 {
+        return 27;
+    }
+    if 122 < c {
+        return 27;
+    }
+    c - 96
+}

@@ -1,0 +1,11 @@
+pub mod TermLines
+pub mod TermJudging
+pub mod TermTurns
+pub mod TermSlices
+pub mod CountsLine
+pub mod SumLines
+pub mod SumTurns
+pub mod Joining
+pub mod FormulaLines
+pub mod FormulaTurns
+pub mod ItemStarts

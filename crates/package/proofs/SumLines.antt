@@ -1,0 +1,130 @@
+-- A sum line, field by field, its bounds and what it is judged: one law for each way through a reader.
+use mathlib.Core.Path.{_≡_, sym, ap, _∙_}
+use mathlib.Core.Bool.{Bool, true, false}
+use mathlib.Core.List.{List}
+use Prim.Native.Nat.{ℕ, _+_, _≤_}
+use Rattle.package.specs.Bounds.{coefFits, wordFits}
+use Rattle.package.specs.Held.{seenSum, reachLeft, reachRight, seenSumJudged}
+use Rattle.package.specs.Names.{sumKinds}
+use Rattle.package.specs.Sums.{SumForm, noSum, sum, sumForm, sumItemFits, ofs, sumFits, sumFollows, SumVerdict, refuse3, accept3, judged3, judgeSum}
+use Rattle.package.specs.declared.Head.{Head}
+use Rattle.package.specs.declared.Limits.{Limits}
+use Rattle.package.specs.declared.SumJudged.{SumJudged}
+use Rattle.package.specs.declared.SumJudged.the-variants.{Reject, Admit}
+use Rattle.package.specs.declared.SumRead.{SumRead}
+use Rattle.package.specs.declared.SumRead.the-variants.{Shapeless, Sum}
+use Rattle.text.specs.Bytes.{within}
+use Rattle.text.specs.Field.{none, some, numThen, noneWord, someWord, wordThen, wordLast, rank}
+use Rattle.text.specs.Number.{number}
+use Rattle.text.specs.Pieces.{Pieces, fields, part}
+use Rattle.text.specs.Word.{noWord, word}
+
+-- The six fields.
+module _ (ps : Pieces) where
+  pub sum-kind : numThen (rank sumKinds) ps ≡ none → noSum ≡ sumForm ps
+  unfolding sumForm
+  sum-kind a = rw (sumForm, a)
+
+  module _ (k : ℕ) (ps₁ : Pieces) (a : numThen (rank sumKinds) ps ≡ some k ps₁) where
+    pub sum-item : numThen number ps₁ ≡ none → noSum ≡ sumForm ps
+    unfolding sumForm
+    sum-item b = rw (sumForm, a, b)
+
+    module _ (i : ℕ) (ps₂ : Pieces) (b : numThen number ps₁ ≡ some i ps₂) where
+      pub sum-coef : numThen number ps₂ ≡ none → noSum ≡ sumForm ps
+      unfolding sumForm
+      sum-coef c = rw (sumForm, a, b, c)
+
+      module _ (m : ℕ) (ps₃ : Pieces) (c : numThen number ps₂ ≡ some m ps₃) where
+        pub sum-left : wordThen ps₃ ≡ noneWord → noSum ≡ sumForm ps
+        unfolding sumForm
+        sum-left d = rw (sumForm, a, b, c, d)
+
+        module _ (l : List ℕ) (ps₄ : Pieces) (d : wordThen ps₃ ≡ someWord l ps₄) where
+          pub sum-of : numThen number ps₄ ≡ none → noSum ≡ sumForm ps
+          unfolding sumForm
+          sum-of e = rw (sumForm, a, b, c, d, e)
+
+          module _ (o : ℕ) (ps₅ : Pieces) (e : numThen number ps₄ ≡ some o ps₅) where
+            pub sum-right : wordLast ps₅ ≡ noWord → noSum ≡ sumForm ps
+            unfolding sumForm
+            sum-right f = rw (sumForm, a, b, c, d, e, f)
+
+            pub sum-whole : (r : List ℕ) → wordLast ps₅ ≡ word r → sum k i m l o r ≡ sumForm ps
+            unfolding sumForm
+            sum-whole r f = rw (sumForm, a, b, c, d, e, f)
+
+pub within-eq : (lo m m′ x : ℕ) (t : Bool) → m ≡ m′ → t ≡ within lo m x → within lo m′ x ≡ t
+within-eq lo m m′ x t e h = sym (h ∙ ap (λ n. within lo n x) e)
+
+-- Item, coefficient, `of` and words in bounds.
+module _ (h : Head) (lim : Limits) (k i c : ℕ) (l : List ℕ) (o : ℕ) (r : List ℕ) where
+  pub sum-5-item : sumItemFits h k i ≡ false → false ≡ sumFits h lim k i c l o r
+  unfolding sumFits
+  sum-5-item a = rw (sumFits, a)
+
+  module _ (a : sumItemFits h k i ≡ true) where
+    pub sum-5-coef : coefFits (h .p) c ≡ false → false ≡ sumFits h lim k i c l o r
+    unfolding sumFits
+    sum-5-coef b = rw (sumFits, a, b)
+
+    module _ (b : coefFits (h .p) c ≡ true) where
+      pub sum-5-of : within 1 (ofs h k) o ≡ false → false ≡ sumFits h lim k i c l o r
+      unfolding sumFits
+      sum-5-of d = rw (sumFits, a, b, d)
+
+      module _ (d : within 1 (ofs h k) o ≡ true) where
+        pub sum-5-left : wordFits (lim .len) (h .letters) l ≡ false → false ≡ sumFits h lim k i c l o r
+        unfolding sumFits
+        sum-5-left e = rw (sumFits, a, b, d, e)
+
+        pub sum-5-right : wordFits (lim .len) (h .letters) l ≡ true → wordFits (lim .len) (h .letters) r ≡ sumFits h lim k i c l o r
+        unfolding sumFits
+        sum-5-right e = rw (sumFits, a, b, d, e)
+
+module _ (l : List ℕ) (r : SumRead) (x : SumForm) where
+  pub seen-shapeless : r ≡ Shapeless → seenSum l r ≡ x → x ≡ noSum
+  unfolding seenSum
+  seen-shapeless q h = sym h ∙ rw q
+
+  pub seen-sum : (k i c a m o b n : ℕ) → r ≡ Sum k i c a m o b n → seenSum l r ≡ x → x ≡ sum k i c (part l a m) o (part l b n)
+  unfolding seenSum
+  seen-sum k i c a m o b n q h = sym h ∙ rw q
+
+module _ (r : SumRead) (k i c a m o b n z : ℕ) (q : r ≡ Sum k i c a m o b n) where
+  pub left-le : reachLeft r ≤ z → a + m ≤ z
+  unfolding reachLeft
+  left-le h = rw q at h
+
+  pub right-le : reachRight r ≤ z → b + n ≤ z
+  unfolding reachRight
+  right-le h = rw q at h
+
+-- Refusals 2, 5, 6 and a line in order.
+module _ (h : Head) (lim : Limits) (k′ i′ : ℕ) (line : List ℕ) where
+  pub judge3-2 : sumForm (fields line) ≡ noSum → refuse3 2 ≡ judgeSum h lim k′ i′ line
+  unfolding judgeSum judged3
+  judge3-2 a = rw (judgeSum, a)
+
+  module _ (k i c : ℕ) (l : List ℕ) (o : ℕ) (r : List ℕ) (a : sumForm (fields line) ≡ sum k i c l o r) where
+    pub judge3-5 : sumFits h lim k i c l o r ≡ false → refuse3 5 ≡ judgeSum h lim k′ i′ line
+    unfolding judgeSum judged3
+    judge3-5 b = rw (judgeSum, a, judged3, b)
+
+    module _ (b : sumFits h lim k i c l o r ≡ true) where
+      pub judge3-6 : sumFollows k′ i′ k i ≡ false → refuse3 6 ≡ judgeSum h lim k′ i′ line
+      unfolding judgeSum judged3
+      judge3-6 d = rw (judgeSum, a, judged3, b, d)
+
+      pub judge3-0 : sumFollows k′ i′ k i ≡ true → accept3 k i ≡ judgeSum h lim k′ i′ line
+      unfolding judgeSum judged3
+      judge3-0 d = rw (judgeSum, a, judged3, b, d)
+
+module _ (r : SumJudged) (x : SumVerdict) where
+  pub seen-reject : (v : ℕ) → r ≡ Reject v → seenSumJudged r ≡ x → x ≡ refuse3 v
+  unfolding seenSumJudged
+  seen-reject v q h = sym h ∙ rw q
+
+  pub seen-admit : (k i : ℕ) → r ≡ Admit k i → seenSumJudged r ≡ x → x ≡ accept3 k i
+  unfolding seenSumJudged
+  seen-admit k i q h = sym h ∙ rw q

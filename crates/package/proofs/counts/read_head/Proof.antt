@@ -1,0 +1,85 @@
+use mathlib.Core.Path.{sym, _∙_}
+use borrow.Author.Needs.{needs}
+use Rattle.package.proofs.CountsLine.{head-p, head-letters, head-gens, head-basis, head-whole}
+use Rattle.package.specs.Held.{seenHead}
+use Rattle.text.proofs.FieldReading.{seen-none, seen-some, next-le}
+use Rattle.package.proofs.counts.read_head.Statement.{statement}
+use Rattle.package.proofs.counts.read_head.Tie as tie
+
+inner-number-requires : tie.Need-inner-number-requires
+inner-number-requires c κs = search needs
+
+enum-known-p : tie.Need-enum-known-p
+enum-known-p c = search needs
+
+enum-told : tie.Need-enum-told
+enum-told c = search needs
+
+returns : tie.Need-returns
+unfolding seenHead
+returns c = head-p _ (seen-none _ _ _ (c .enum-told .given .1) (c .before .before .inner-number .ensures .0))
+
+inner-number-requires-2 : tie.Need-inner-number-requires-2
+inner-number-requires-2 c κs = next-le _ _ _ _ (c .before .p .given .1) (c .before .before .before .inner-number .ensures .1)
+
+enum-known-letters : tie.Need-enum-known-letters
+enum-known-letters c = search needs
+
+enum-told-2 : tie.Need-enum-told-2
+enum-told-2 c = search needs
+
+returns-2 : tie.Need-returns-2
+unfolding seenHead
+returns-2 c = head-letters _ _ _ (seen-some _ _ _ _ _ (c .before .before .before .before .p .given .1) (c .before .before .before .before .before .before .inner-number .ensures .0)) (seen-none _ _ _ (c .enum-told2 .given .1) (c .before .before .inner-number2 .ensures .0))
+
+inner-number-requires-3 : tie.Need-inner-number-requires-3
+inner-number-requires-3 c κs = next-le _ _ _ _ (c .before .letters .given .1) (c .before .before .before .inner-number2 .ensures .1)
+
+enum-known-gens : tie.Need-enum-known-gens
+enum-known-gens c = search needs
+
+enum-told-3 : tie.Need-enum-told-3
+enum-told-3 c = search needs
+
+returns-3 : tie.Need-returns-3
+unfolding seenHead
+returns-3 c = head-gens _ _ _ (seen-some _ _ _ _ _ (c .before .before .before .before .before .before .before .before .p .given .1) (c .before .before .before .before .before .before .before .before .before .before .inner-number .ensures .0)) _ _ (seen-some _ _ _ _ _ (c .before .before .before .before .letters .given .1) (c .before .before .before .before .before .before .inner-number2 .ensures .0)) (seen-none _ _ _ (c .enum-told3 .given .1) (c .before .before .inner-number3 .ensures .0))
+
+last-number-requires : tie.Need-last-number-requires
+last-number-requires c κs = next-le _ _ _ _ (c .before .gens .given .1) (c .before .before .before .inner-number3 .ensures .1)
+
+enum-known-basis : tie.Need-enum-known-basis
+enum-known-basis c = search needs
+
+enum-told-4 : tie.Need-enum-told-4
+enum-told-4 c = search needs
+
+returns-4 : tie.Need-returns-4
+unfolding seenHead
+returns-4 c = head-basis _ _ _ (seen-some _ _ _ _ _ (c .before .before .before .before .before .before .before .before .before .before .before .before .p .given .1) (c .before .before .before .before .before .before .before .before .before .before .before .before .before .before .inner-number .ensures .0)) _ _ (seen-some _ _ _ _ _ (c .before .before .before .before .before .before .before .before .letters .given .1) (c .before .before .before .before .before .before .before .before .before .before .inner-number2 .ensures .0)) _ _ (seen-some _ _ _ _ _ (c .before .before .before .before .gens .given .1) (c .before .before .before .before .before .before .inner-number3 .ensures .0)) (sym (c .before .before .last-number .ensures) ∙ c .enum-told4 .given .1)
+
+returns-5 : tie.Need-returns-5
+unfolding seenHead
+returns-5 c = head-whole _ _ _ (seen-some _ _ _ _ _ (c .before .before .before .before .before .before .before .before .before .before .before .before .before .p .given .1) (c .before .before .before .before .before .before .before .before .before .before .before .before .before .before .before .inner-number .ensures .0)) _ _ (seen-some _ _ _ _ _ (c .before .before .before .before .before .before .before .before .before .letters .given .1) (c .before .before .before .before .before .before .before .before .before .before .before .inner-number2 .ensures .0)) _ _ (seen-some _ _ _ _ _ (c .before .before .before .before .before .gens .given .1) (c .before .before .before .before .before .before .before .inner-number3 .ensures .0)) _ (sym (c .before .before .before .last-number .ensures) ∙ c .before .basis .given .1)
+
+pub read-head-spec : {M : Type 1} → statement M
+read-head-spec =
+    tie.close
+    (tie.spec
+    inner-number-requires
+    enum-known-p
+    enum-told
+    returns
+    inner-number-requires-2
+    enum-known-letters
+    enum-told-2
+    returns-2
+    inner-number-requires-3
+    enum-known-gens
+    enum-told-3
+    returns-3
+    last-number-requires
+    enum-known-basis
+    enum-told-4
+    returns-4
+    returns-5)

@@ -1,0 +1,45 @@
+-- `row_fits` is `rowFits`, test by test.
+use mathlib.Core.Path.{sym, _∙_}
+use borrow.Author.Tests.{not-true, not-false}
+use borrow.Author.Needs.{needs}
+use denote.Ref.{now}
+use Rattle.package.proofs.FormulaLines.{row-coef, row-word, row-full, row-first, row-below}
+use Rattle.package.proofs.formula.row_fits.Statement.{statement}
+use Rattle.package.proofs.formula.row_fits.Tie as tie
+
+coef-fits-requires : tie.Need-coef-fits-requires
+coef-fits-requires c κs = search needs
+
+returns : tie.Need-returns
+returns c = let a = c .before .before .before .before .args in row-coef (a .p) (a .letters) (a .m) (now (a .v)) (a .n) (a .coef) (now (a .w)) (sym (c .before .coef-fits .ensures) ∙ not-true _ (c .if1 .taken))
+
+word-fits-requires : tie.Need-word-fits-requires
+word-fits-requires c κs = search needs
+
+returns-2 : tie.Need-returns-2
+returns-2 c = let a = c .before .before .before .before .before .before .args in row-word (a .p) (a .letters) (a .m) (now (a .v)) (a .n) (a .coef) (now (a .w)) (sym (c .before .before .before .coef-fits .ensures) ∙ not-false _ (c .before .before .if1 .left)) (sym (c .before .word-fits .ensures) ∙ not-true _ (c .if2 .taken))
+
+returns-3 : tie.Need-returns-3
+returns-3 c = let a = c .before .before .before .before .before .before .before .before .args in row-full (a .p) (a .letters) (a .m) (now (a .v)) (a .n) (a .coef) (now (a .w)) (sym (c .before .before .before .before .before .coef-fits .ensures) ∙ not-false _ (c .before .before .before .before .if1 .left)) (sym (c .before .before .before .word-fits .ensures) ∙ not-false _ (c .before .before .if2 .left)) (c .if3 .taken)
+
+returns-4 : tie.Need-returns-4
+returns-4 c = let a = c .before .before .before .before .before .before .before .before .before .args in row-first (a .p) (a .letters) (a .m) (now (a .v)) (a .n) (a .coef) (now (a .w)) (sym (c .before .before .before .before .before .before .coef-fits .ensures) ∙ not-false _ (c .before .before .before .before .before .if1 .left)) (sym (c .before .before .before .before .word-fits .ensures) ∙ not-false _ (c .before .before .before .if2 .left)) (c .before .if3 .left) (c .if4 .taken)
+
+is-below-requires : tie.Need-is-below-requires
+is-below-requires c κs = search needs
+
+returns-5 : tie.Need-returns-5
+returns-5 c = let a = c .before .before .before .before .before .before .before .before .before .before .args in c .is-below .ensures ∙ row-below (a .p) (a .letters) (a .m) (now (a .v)) (a .n) (a .coef) (now (a .w)) (sym (c .before .before .before .before .before .before .before .coef-fits .ensures) ∙ not-false _ (c .before .before .before .before .before .before .if1 .left)) (sym (c .before .before .before .before .before .word-fits .ensures) ∙ not-false _ (c .before .before .before .before .if2 .left)) (c .before .before .if3 .left) (c .before .if4 .left)
+
+pub row-fits-spec : {M : Type 1} → statement M
+row-fits-spec =
+    tie.close
+    (tie.spec
+    coef-fits-requires
+    returns
+    word-fits-requires
+    returns-2
+    returns-3
+    returns-4
+    is-below-requires
+    returns-5)

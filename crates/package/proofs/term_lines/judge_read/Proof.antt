@@ -1,0 +1,80 @@
+use mathlib.Core.Path.{sym, _∙_}
+use native.Mathlib.Omega.{arith}
+use borrow.Author.Tests.{not-true, not-false}
+use borrow.Author.Needs.{needs}
+use denote.Ref.{now}
+use Rattle.package.proofs.TermJudging.{judge-5, judge-6, judge-7-item, judge-7-total, judge-0, counted-word}
+use Rattle.package.specs.Held.{seenJudged, reachJudged, aboveOf}
+use Rattle.text.proofs.Cutting.{part-end}
+use Rattle.package.proofs.term_lines.judge_read.Statement.{statement}
+use Rattle.package.proofs.term_lines.judge_read.Tie as tie
+
+add-e : tie.Need-add-e
+add-e c = search needs
+
+sub-term-fits : tie.Need-sub-term-fits
+sub-term-fits c = search needs
+
+part-term-fits-start : tie.Need-part-term-fits-start
+part-term-fits-start c = search needs
+
+part-term-fits-end : tie.Need-part-term-fits-end
+part-term-fits-end c = search needs
+
+term-fits-requires : tie.Need-term-fits-requires
+term-fits-requires c κs = search needs
+
+returns : tie.Need-returns
+unfolding seenJudged reachJudged
+returns c = let a = c .before .before .before .before .args in (judge-5 (a .h) (a .m) (aboveOf (now (a .s)) (a .last)) (a .total) (a .kind) (a .item) (a .coef) _ (sym (rw part-end at (c .before .term-fits .ensures)) ∙ not-true _ (c .if1 .taken)), omega arith)
+
+sub-term-follows : tie.Need-sub-term-follows
+sub-term-follows c = search needs
+
+part-term-follows-start : tie.Need-part-term-follows-start
+part-term-follows-start c = search needs
+
+part-term-follows-end : tie.Need-part-term-follows-end
+part-term-follows-end c = search needs
+
+term-follows-requires : tie.Need-term-follows-requires
+term-follows-requires c κs = search needs
+
+returns-2 : tie.Need-returns-2
+unfolding seenJudged reachJudged
+returns-2 c = let a = c .before .before .before .before .before .before .before .args in (judge-6 (a .h) (a .m) (aboveOf (now (a .s)) (a .last)) (a .total) (a .kind) (a .item) (a .coef) _ (sym (rw part-end at (c .before .before .before .before .term-fits .ensures)) ∙ not-false _ (c .before .before .before .if1 .left)) (sym (rw part-end at (c .before .term-follows .ensures)) ∙ not-true _ (c .if2 .taken)), omega arith)
+
+term-count-requires : tie.Need-term-count-requires
+term-count-requires c κs = search needs
+
+returns-3 : tie.Need-returns-3
+unfolding seenJudged reachJudged
+returns-3 c = let a = c .before .before .before .before .before .before .before .before .before .before .args in (judge-7-item (a .h) (a .m) (aboveOf (now (a .s)) (a .last)) (a .total) (a .kind) (a .item) (a .coef) _ (sym (rw part-end at (c .before .before .before .before .before .before .before .term-fits .ensures)) ∙ not-false _ (c .before .before .before .before .before .before .if1 .left)) (sym (rw part-end at (c .before .before .before .before .term-follows .ensures)) ∙ not-false _ (c .before .before .before .if2 .left)) (omega (arith, c .before .before .term-count .ensures, counted-word (now (a .s)) (a .last) (a .kind) (a .item))), omega arith)
+
+returns-4 : tie.Need-returns-4
+unfolding seenJudged reachJudged
+returns-4 c = let a = c .before .before .before .before .before .before .before .before .before .before .before .args in (judge-0 (a .h) (a .m) (aboveOf (now (a .s)) (a .last)) (a .total) (a .kind) (a .item) (a .coef) _ (sym (rw part-end at (c .before .before .before .before .before .before .before .before .term-fits .ensures)) ∙ not-false _ (c .before .before .before .before .before .before .before .if1 .left)) (sym (rw part-end at (c .before .before .before .before .before .term-follows .ensures)) ∙ not-false _ (c .before .before .before .before .if2 .left)) (omega (arith, c .before .before .before .term-count .ensures, counted-word (now (a .s)) (a .last) (a .kind) (a .item))) (c .if4 .taken), omega arith)
+
+returns-5 : tie.Need-returns-5
+unfolding seenJudged reachJudged
+returns-5 c = let a = c .before .before .before .before .before .before .before .before .before .before .before .args in (judge-7-total (a .h) (a .m) (aboveOf (now (a .s)) (a .last)) (a .total) (a .kind) (a .item) (a .coef) _ (sym (rw part-end at (c .before .before .before .before .before .before .before .before .term-fits .ensures)) ∙ not-false _ (c .before .before .before .before .before .before .before .if1 .left)) (sym (rw part-end at (c .before .before .before .before .before .term-follows .ensures)) ∙ not-false _ (c .before .before .before .before .if2 .left)) (omega (arith, c .before .before .before .term-count .ensures, counted-word (now (a .s)) (a .last) (a .kind) (a .item))) (c .if4 .left), omega arith)
+
+pub judge-read-spec : {M : Type 1} → statement M
+judge-read-spec =
+    tie.close
+    (tie.spec
+    add-e
+    sub-term-fits
+    part-term-fits-start
+    part-term-fits-end
+    term-fits-requires
+    returns
+    sub-term-follows
+    part-term-follows-start
+    part-term-follows-end
+    term-follows-requires
+    returns-2
+    term-count-requires
+    returns-3
+    returns-4
+    returns-5)

@@ -1,0 +1,22 @@
+-- Where the terms of an item start: items are numbered G 1 to gens, then B 1 to basis.
+use mathlib.Core.Bool.{true, false}
+use mathlib.Core.List.{List, [], _∷_}
+use Prim.Native.Nat.{ℕ, suc, _+_}
+use lib.Dec.{ltb, eqb}
+use Rattle.package.specs.Terms.{TermLine}
+use Rattle.package.specs.declared.Head.{Head}
+
+-- The number of item i of a kind among all items, counted from 1.
+unfoldable pub slot : Head → ℕ → ℕ → ℕ
+slot h k i = elim (eqb k 1) [ true ↦ i | false ↦ h .gens + i ]
+
+-- The numbers of the items that terms belong to.
+unfoldable pub slotsOf : Head → List TermLine → List ℕ
+unfolding slot
+slotsOf h [] = []
+slotsOf h (t ∷ ts) = slot h (t .kind) (t .item) ∷ slotsOf h ts
+
+-- How many terms stand before the first one of item number j or a later item: where item j starts, as the items do not fall.
+unfoldable pub firstOf : ℕ → List ℕ → ℕ
+firstOf j [] = 0
+firstOf j (x ∷ xs) = elim (ltb x j) [ true ↦ suc (firstOf j xs) | false ↦ 0 ]

@@ -1,0 +1,10 @@
+pub mod Names
+pub mod Bounds
+pub mod Head
+pub mod Terms
+pub mod Items
+pub mod Sums
+pub mod Package
+pub mod Formula
+pub mod Held
+pub mod Examples

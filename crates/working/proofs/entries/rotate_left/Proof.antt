@@ -1,0 +1,94 @@
+-- `rotate_left` moves entry k to m. The loop's invariant: the entries before i have moved.
+use mathlib.Core.Path.{_≡_}
+use Prim.Native.Nat.{ℕ, _-_, _≤_}
+use lib.ListN.{length, getD}
+use Rattle.working.specs.Changes.{shiftedLeft}
+use Rattle.working.proofs.Rotations.{shift-left-turn, shift-left-start, moved-left}
+use borrow.Author.Needs.{needs}
+use Rattle.working.proofs.entries.rotate_left.Statement.{statement}
+use Rattle.working.proofs.entries.rotate_left.Tie as tie
+
+abbrev Inv-loop : tie.InvT-loop
+Inv-loop a₀ k m x i₀ a i =
+    (k ≤ i) × (i ≤ m) × (length a ≡ length a₀) × (x ≡ getD a₀ k 0) × ((j : ℕ) → getD a j 0 ≡ getD a₀ (shiftedLeft k i j) 0)
+
+abbrev μ-loop : tie.MeasureT-loop
+μ-loop a₀ k m x i₀ a i = m - i
+
+mul-x : tie.Need-mul-x Inv-loop μ-loop
+mul-x c = search needs
+
+slice-read-x : tie.Need-slice-read-x Inv-loop μ-loop
+slice-read-x c = search needs
+
+loop-holds : tie.Need-loop-holds Inv-loop μ-loop
+loop-holds c = (search needs, search needs, search needs, search needs, shift-left-start (c .before .args .a .now) (c .before .args .k))
+
+add-a : tie.Need-add-a Inv-loop μ-loop
+add-a c = search needs
+
+mul-a : tie.Need-mul-a Inv-loop μ-loop
+mul-a c = search needs
+
+slice-read-a : tie.Need-slice-read-a Inv-loop μ-loop
+slice-read-a c = search needs
+
+mul-a-2 : tie.Need-mul-a-2 Inv-loop μ-loop
+mul-a-2 c = search needs
+
+slice-write-a : tie.Need-slice-write-a Inv-loop μ-loop
+slice-write-a c = search needs
+
+add-i : tie.Need-add-i Inv-loop μ-loop
+add-i c = search needs
+
+loop-less : tie.Need-loop-less Inv-loop μ-loop
+loop-less c = search needs
+
+loop-again : tie.Need-loop-again Inv-loop μ-loop
+loop-again c =
+    let m = c .before .before in
+    let z = m .before .before .args in (
+      search needs,
+      search needs,
+      search needs,
+      search needs,
+      shift-left-turn (z .a .now) (m .loop .a) (z .k) (m .loop .i) (search needs) (search needs) (m .loop .inv .4),
+    )
+
+mul-a-3 : tie.Need-mul-a-3 Inv-loop μ-loop
+mul-a-3 c = search needs
+
+slice-write-a-2 : tie.Need-slice-write-a-2 Inv-loop μ-loop
+slice-write-a-2 c = search needs
+
+same-length : tie.Need-same-length Inv-loop μ-loop
+same-length c = search needs
+
+returns : tie.Need-returns Inv-loop μ-loop
+returns c =
+    let m = c .before in
+    let z = m .before .before .args in
+    moved-left (z .a .now) (m .loop .a) (z .k) (z .m) (m .loop .i) _ (m .loop .inv .2) (search needs) (search needs) (m .loop .inv .3) (m .loop .inv .4)
+
+pub rotate-left-spec : {M : Type 1} → statement M
+rotate-left-spec =
+    tie.close
+    (tie.spec
+    Inv-loop
+    μ-loop
+    mul-x
+    slice-read-x
+    loop-holds
+    add-a
+    mul-a
+    slice-read-a
+    mul-a-2
+    slice-write-a
+    add-i
+    loop-less
+    loop-again
+    mul-a-3
+    slice-write-a-2
+    same-length
+    returns)

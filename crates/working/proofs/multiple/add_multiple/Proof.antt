@@ -1,0 +1,193 @@
+-- `add_multiple` is the sum with the multiple. The loop's invariant: what is held, with the terms that are left added, is that sum.
+use mathlib.Core.Path.{_≡_, refl, sym, ap, _∙_}
+use Prim.Native.Nat.{_+_, _-_, _≤_}
+use native.Mathlib.Omega.{arith}
+use lib.ListN.{length}
+use Rattle.field.specs.Field.{fieldOf}
+use Rattle.words.specs.Order.{wordOrder}
+use Rattle.algebra.specs.Poly.{scale, shift}
+use Rattle.algebra.specs.Written.{plus}
+use Rattle.working.specs.Working.{formula}
+use Rattle.working.specs.Polynomial.{polyAt}
+use Rattle.working.proofs.Adding.{Sizes, Adding, rest, rest-all, rest-next, rest-end, word-short, adding-next, adding-end}
+use borrow.Author.Needs.{needs}
+use Rattle.working.proofs.multiple.add_multiple.Statement.{statement}
+use Rattle.working.proofs.multiple.add_multiple.Tie as tie
+
+abbrev Inv-loop : tie.InvT-loop
+Inv-loop p x left gc gs gl bytes right c₀ l₀ w₀ o₀ n buf₀ j₀ k₀ c l w o buf j k =
+    (j ≤ length gc)
+    × (k ≤ n + j)
+    × Sizes c₀ l₀ w₀ o₀ buf₀ c l w o buf
+    × Adding p c l w o k (rest (fieldOf p) x left right gc gs gl bytes j)
+    (plus (fieldOf p) wordOrder (formula c₀ l₀ w₀ o₀ n) (scale (fieldOf p) x (shift left right (polyAt gc gs gl bytes))))
+
+abbrev μ-loop : tie.MeasureT-loop
+μ-loop p x left gc gs gl bytes right c₀ l₀ w₀ o₀ n buf₀ j₀ k₀ c l w o buf j k = length gc - j
+
+loop-holds : tie.Need-loop-holds Inv-loop μ-loop
+loop-holds c =
+    let z = c .before .before .before .before .before .before .before .before .before .before .before in
+    let a = z .args in (
+      search needs,
+      search needs,
+      record { coefs = refl; lens = refl; letters = refl; places = refl; word = refl },
+      record { working = z .pre .1 .1 .0; sum = ap (plus (fieldOf (a .p)) wordOrder _) (rest-all (fieldOf (a .p)) (a .x) (a .left .now) (a .right .now) (a .gc .now) (a .gs .now) (a .gl .now) (a .bytes .now)) },
+    )
+
+mul-mul : tie.Need-mul-mul Inv-loop μ-loop
+mul-mul c = search needs
+
+shared-slice-read-mul : tie.Need-shared-slice-read-mul Inv-loop μ-loop
+shared-slice-read-mul c = search needs
+
+mul-requires : tie.Need-mul-requires Inv-loop μ-loop
+mul-requires c κs =
+    let z = c .before .before .before .before .before .before .before .before .before .before .before .before .before .before in
+    let m = c .before .before .loop in
+    let t = c .before .loop-test .taken in
+    (z .pre .0 .0, z .pre .0 .1, z .pre .1 .0 .small (m .j) t)
+
+mul-compose : tie.Need-mul-compose Inv-loop μ-loop
+mul-compose c = let g = c .before .before .before .before .before .before .before .before .before .before .before .before .before .before .before .before .pre .1 .0 .starts in search needs
+
+shared-slice-read-compose : tie.Need-shared-slice-read-compose Inv-loop μ-loop
+shared-slice-read-compose c = let g = c .before .before .before .before .before .before .before .before .before .before .before .before .before .before .before .before .before .pre .1 .0 .starts in search needs
+
+mul-compose-2 : tie.Need-mul-compose-2 Inv-loop μ-loop
+mul-compose-2 c = let g = c .before .before .before .before .before .before .before .before .before .before .before .before .before .before .before .before .before .pre .1 .0 .lens in search needs
+
+shared-slice-read-compose-2 : tie.Need-shared-slice-read-compose-2 Inv-loop μ-loop
+shared-slice-read-compose-2 c = let g = c .before .before .before .before .before .before .before .before .before .before .before .before .before .before .before .before .before .before .pre .1 .0 .lens in search needs
+
+compose-requires : tie.Need-compose-requires Inv-loop μ-loop
+compose-requires c κs =
+    let z = c .before .before .before .before .before .before .before .before .before .before .before .before .before .before .before .before .before .before in
+    let m = c .before .before .before .before .before .before .loop in
+    let t = c .before .before .before .before .before .loop-test .taken in
+    let q = z .pre .1 .0 .short (m .j) t in
+    let r = z .pre .1 .1 .1 .1 in
+    let s = m .inv .2 .word in
+    (z .pre .1 .0 .inside (m .j) t, omega arith)
+
+sub-add-term : tie.Need-sub-add-term Inv-loop μ-loop
+sub-add-term c = search needs
+
+part-add-term-start : tie.Need-part-add-term-start Inv-loop μ-loop
+part-add-term-start c = search needs
+
+part-add-term-end : tie.Need-part-add-term-end Inv-loop μ-loop
+part-add-term-end c =
+    let z = c .before .before .before .before .before .before .before .before .before .before .before .before .before .before .before .before .before .before .before .before .before .before in
+    let m = c .before .before .before .before .before .before .before .before .before .before .loop in
+    let t = c .before .before .before .before .before .before .before .before .before .loop-test .taken in
+    let b = c .before .before .before .compose in
+    let e = b .ensures .0 in
+    let k = b .kept .0 in
+    let q = z .pre .1 .0 .short (m .j) t in
+    let r = z .pre .1 .1 .1 .1 in
+    let s = m .inv .2 .word in
+    omega arith
+
+add-term-requires : tie.Need-add-term-requires Inv-loop μ-loop
+add-term-requires c κs =
+    let z = c .before .before .before .before .before .before .before .before .before .before .before .before .before .before .before .before .before .before .before .before .before .before .before .before .before .before .before in
+    let m = c .before .before .before .before .before .before .before .before .before .before .before .before .before .before .before .loop in
+    let t = c .before .before .before .before .before .before .before .before .before .before .before .before .before .before .loop-test .taken in
+    let b = c .before .before .before .before .before .before .before .before .compose in
+    let y = c .before .before .before .before .before .before .before .before .before .before .before .before .mul in
+    let q = z .pre .1 .0 .short (m .j) t in
+    let e = b .ensures .0 in
+    let short = word-short (b .result) (b .last .0) (omega arith) (let k = b .kept .0 in let r = z .pre .1 .1 .1 .1 in let s = m .inv .2 .word in omega arith) in
+    let r = z .pre .1 .1 .1 .0 in
+    let s = m .inv .2 .places in
+    let k = m .inv .1 in
+    ((z .pre .0 .0, y .ensures .1, z .pre .0 .2), ((short, omega arith), m .inv .3 .working))
+
+add-j : tie.Need-add-j Inv-loop μ-loop
+add-j c =
+    let z = c .before .before .before .before .before .before .before .before .before .before .before .before .before .before .before .before .before .before .before .before .before .before .before .before .before .before .before .before .before .before .before .before .before .before .before .before in
+    let m = c .before .before .before .before .before .before .before .before .before .before .before .before .before .before .before .before .before .before .before .before .before .before .before .before .loop in
+    let t = c .before .before .before .before .before .before .before .before .before .before .before .before .before .before .before .before .before .before .before .before .before .before .before .loop-test .taken in
+    let g = z .good in
+    record { fits = omega arith }
+
+loop-less : tie.Need-loop-less Inv-loop μ-loop
+loop-less c = search needs
+
+loop-again : tie.Need-loop-again Inv-loop μ-loop
+loop-again c =
+    let z = c .before .before .before .before .before .before .before .before .before .before .before .before .before .before .before .before .before .before .before .before .before .before .before .before .before .before .before .before .before .before .before .before .before .before .before .before in
+    let m = c .before .before .before .before .before .before .before .before .before .before .before .before .before .before .before .before .before .before .before .before .before .before .before .before .loop in
+    let t = c .before .before .before .before .before .before .before .before .before .before .before .before .before .before .before .before .before .before .before .before .before .before .before .loop-test .taken in
+    let a = z .args in
+    let b = c .before .before .before .before .before .before .before .before .before .before .before .before .before .before .before .before .before .compose in
+    let y = c .before .before .before .before .before .before .before .before .before .before .before .before .before .before .before .before .before .before .before .before .before .mul in
+    let d = c .before .before .before .before .before .before .before .before .add-term in
+    let s = m .inv .2 in (
+      omega arith,
+      let q = d .ensures .0 in let r = m .inv .1 in omega arith,
+      record {
+        coefs = d .kept .1 .1 .1 .0 ∙ s .coefs;
+        lens = d .kept .1 .1 .1 .1 .0 ∙ s .lens;
+        letters = d .kept .1 .1 .1 .1 .1 .0 ∙ s .letters;
+        places = d .kept .1 .1 .1 .1 .1 .1 .0 ∙ s .places;
+        word = b .kept .0 ∙ s .word;
+      },
+      adding-next _ _ _ _ _ _ _ _ _ _ _ _ _ _ _ (z .pre .0 .2) (m .inv .3)
+          (rest-next (fieldOf (a .p)) (a .x) (a .left .now) (a .right .now) (a .gc .now) (a .gs .now) (a .gl .now) (a .bytes .now) (m .j) (y .result) (b .result) (b .last .0) t (y .ensures .0) (b .ensures .1)) (d .ensures .1 .0) (d .ensures .1 .1),
+    )
+
+same-length : tie.Need-same-length Inv-loop μ-loop
+same-length c = search needs
+
+same-length-2 : tie.Need-same-length-2 Inv-loop μ-loop
+same-length-2 c = search needs
+
+same-length-3 : tie.Need-same-length-3 Inv-loop μ-loop
+same-length-3 c = search needs
+
+same-length-4 : tie.Need-same-length-4 Inv-loop μ-loop
+same-length-4 c = search needs
+
+same-length-5 : tie.Need-same-length-5 Inv-loop μ-loop
+same-length-5 c = search needs
+
+returns : tie.Need-returns Inv-loop μ-loop
+returns c =
+    let a = c .before .before .before .before .before .before .before .before .before .before .before .before .before .args in
+    let m = c .before .loop in
+    let g = m .inv .3 in
+    let r = c .loop-test .left in (
+      let q = m .inv .1 in let s = m .inv .0 in omega arith,
+      (g .working, adding-end _ _ _ _ _ _ _ _ g (rest-end (fieldOf (a .p)) (a .x) (a .left .now) (a .right .now) (a .gc .now) (a .gs .now) (a .gl .now) (a .bytes .now) (m .j) r)),
+    )
+
+pub add-multiple-spec : {M : Type 1} → statement M
+add-multiple-spec =
+    tie.close
+    (tie.spec
+    Inv-loop
+    μ-loop
+    loop-holds
+    mul-mul
+    shared-slice-read-mul
+    mul-requires
+    mul-compose
+    shared-slice-read-compose
+    mul-compose-2
+    shared-slice-read-compose-2
+    compose-requires
+    sub-add-term
+    part-add-term-start
+    part-add-term-end
+    add-term-requires
+    add-j
+    loop-less
+    loop-again
+    same-length
+    same-length-2
+    same-length-3
+    same-length-4
+    same-length-5
+    returns)

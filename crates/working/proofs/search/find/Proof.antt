@@ -1,0 +1,109 @@
+-- `find` is where the word belongs. The loop's invariant: it is below the words before lo, and above the word at hi.
+use mathlib.Core.Path.{_≡_}
+use Prim.Native.Nat.{ℕ, _+_, _-_, _/_, _≤_, _<_}
+use native.Mathlib.Omega.{arith}
+use lib.ListN.{getD}
+use Rattle.words.specs.declared.Comparison.the-variants.{Above}
+use Rattle.words.specs.Order.{Lt, wordOrder}
+use Rattle.working.specs.Working.{wordAt}
+use Rattle.working.proofs.Halving.{told, below-all, belongs-equal, belongs-new}
+use borrow.Author.Needs.{needs}
+use Rattle.working.proofs.search.find.Statement.{statement}
+use Rattle.working.proofs.search.find.Tie as tie
+
+abbrev Inv-loop : tie.InvT-loop
+Inv-loop v l w o n lo₀ hi₀ lo hi =
+    (lo ≤ hi)
+    × (hi ≤ n)
+    × ((i : ℕ) → i < lo → Lt wordOrder v (wordAt l w (getD o i 0)))
+    × (hi < n → wordOrder v (wordAt l w (getD o hi 0)) ≡ Above)
+
+abbrev μ-loop : tie.MeasureT-loop
+μ-loop v l w o n lo₀ hi₀ lo hi = hi - lo
+
+loop-holds : tie.Need-loop-holds Inv-loop μ-loop
+loop-holds c = (search needs, search needs, λ i h. absurd (omega arith), λ h. absurd (omega arith))
+
+sub-mid : tie.Need-sub-mid Inv-loop μ-loop
+sub-mid c = search needs
+
+add-mid : tie.Need-add-mid Inv-loop μ-loop
+add-mid c = search needs
+
+mul-compare-at : tie.Need-mul-compare-at Inv-loop μ-loop
+mul-compare-at c = search needs
+
+shared-slice-read-compare-at : tie.Need-shared-slice-read-compare-at Inv-loop μ-loop
+shared-slice-read-compare-at c = search needs
+
+compare-at-requires : tie.Need-compare-at-requires Inv-loop μ-loop
+compare-at-requires c κs = c .before .before .before .before .before .before .before .pre .place _ (search needs)
+
+enum-told : tie.Need-enum-told Inv-loop μ-loop
+enum-told c = search needs
+
+add-lo : tie.Need-add-lo Inv-loop μ-loop
+add-lo c = search needs
+
+loop-less : tie.Need-loop-less Inv-loop μ-loop
+loop-less c = search needs
+
+loop-again : tie.Need-loop-again Inv-loop μ-loop
+loop-again c =
+    let m = c .before .before .before .before .before .loop in
+    let z = c .before .before .before .before .before .before .before .before .before .before in
+    let a = z .args in
+    let q = c .before .before .compare-at .ensures in
+    (search needs, search needs, below-all (a .v .now) (a .l .now) (a .w .now) (a .o .now) (a .n) (m .lo + (m .hi - m .lo) / 2) (z .pre) (search needs) q (c .enum-told .given .1), search needs)
+
+enum-told-2 : tie.Need-enum-told-2 Inv-loop μ-loop
+enum-told-2 c = search needs
+
+returns : tie.Need-returns Inv-loop μ-loop
+returns c =
+    let m = c .before .before .before .before .before .loop in
+    let z = c .before .before .before .before .before .before .before .before .before .before in
+    let a = z .args in
+    let q = c .before .before .compare-at .ensures in
+    belongs-equal (a .v .now) (a .l .now) (a .w .now) (a .o .now) (a .n) (m .lo + (m .hi - m .lo) / 2) (z .pre) (search needs) q (c .enum-told2 .given .1)
+
+enum-told-3 : tie.Need-enum-told-3 Inv-loop μ-loop
+enum-told-3 c = search needs
+
+loop-less-2 : tie.Need-loop-less-2 Inv-loop μ-loop
+loop-less-2 c = search needs
+
+loop-again-2 : tie.Need-loop-again-2 Inv-loop μ-loop
+loop-again-2 c =
+    let m = c .before .before .before .before .before .loop in
+    let q = c .before .before .compare-at .ensures in
+    (search needs, search needs, m .inv .2, λ _. told q (c .enum-told3 .given .1))
+
+returns-2 : tie.Need-returns-2 Inv-loop μ-loop
+returns-2 c =
+    let m = c .before .loop in
+    let a = c .before .before .before .before .before .before .args in
+    belongs-new (a .v .now) (a .l .now) (a .w .now) (a .o .now) (a .n) (m .lo) (m .hi) (search needs) (search needs) (m .inv .2) (m .inv .3)
+
+pub find-spec : {M : Type 1} → statement M
+find-spec =
+    tie.close
+    (tie.spec
+    Inv-loop
+    μ-loop
+    loop-holds
+    sub-mid
+    add-mid
+    mul-compare-at
+    shared-slice-read-compare-at
+    compare-at-requires
+    enum-told
+    add-lo
+    loop-less
+    loop-again
+    enum-told-2
+    returns
+    enum-told-3
+    loop-less-2
+    loop-again-2
+    returns-2)

@@ -1,0 +1,3 @@
+pub mod Working
+pub mod Polynomial
+pub mod Changes

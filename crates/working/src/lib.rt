@@ -1,0 +1,24 @@
+// The working formula: a polynomial held in arrays, to which multiples of others are added.
+// Coefficients `c` and lengths `l` have one entry for each place, the letters `w` 72, and `o` says which
+// place each term has: its first n entries are the terms, the greatest word first, and the others are the
+// free places. A term is put in or dropped by moving one entry of `o`; letters stay where they are.
+
+pub mod entries;
+pub mod formula;
+pub mod letters;
+pub mod multiple;
+pub mod search;
+pub mod term;
+
+// Where a word belongs among others, and whether it is present there.
+pub struct Position {
+    pub index: usize,
+    pub present: bool,
+}
+
+// A term: its coefficient, and where in the letters its word starts and ends.
+pub struct Shown {
+    pub coef: u32,
+    pub start: usize,
+    pub end: usize,
+}
