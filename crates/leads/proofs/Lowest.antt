@@ -3,7 +3,7 @@ use mathlib.Core.Path.{_≡_, refl, sym, ap, _∙_}
 use Prim.Native.Nat.{ℕ, zero, suc, _+_, _/_, _%_, _^_, _<_}
 use native.Mathlib.Omega.{arith}
 use native.Mathlib.Nat.{div-one}
-use lib.Pow.{pow-add, shr-shr, shr-lt}
+use lib.Pow.{shr-shr, shr-lt}
 use lib.Count.{trailingZeros}
 use Rattle.leads.specs.Masks.{bit, LowestBit}
 

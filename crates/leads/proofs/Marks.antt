@@ -1,11 +1,11 @@
 -- Laws of the table in the making: what a mark more does to it, one law for each way through the turns of `fill_word` and `fill`.
-use mathlib.Core.Path.{_≡_, refl, sym, ap, _∙_}
+use mathlib.Core.Path.{_≡_, sym, ap, _∙_}
 use mathlib.Core.List.{List, []}
-use Prim.Native.Nat.{ℕ, zero, suc, _+_, _-_, _*_, _^_, _≤_, _<_}
+use Prim.Native.Nat.{ℕ, _+_, _*_, _^_, _≤_, _<_}
 use native.Mathlib.Decide.{ℕ-discrete}
 use native.Mathlib.Nat.{add-zero}
 use native.Mathlib.Omega.{arith}
-use lib.ListN.{length, getD, set, length-set}
+use lib.ListN.{length, getD, length-set}
 use lib.Seq.{getD-set-same, getD-set-other}
 use lib.Bits.{bitOr}
 use Rattle.words.specs.Word.{Word}
@@ -39,8 +39,8 @@ module _ (t : List ℕ) (at g : ℕ) (inside : at < length t) where
   mark-of-other i j e d b = bit-old (getD t i 0) g j d (rw (at-same i e) at b)
 
 -- a blank table holds no row
-pub holds-start : (ls : List Word) (t : List ℕ) → Blank t → Holds ls 0 t
-holds-start ls t b = record {
+pub holds-start : {ls : List Word} {t : List ℕ} → Blank t → Holds ls 0 t
+holds-start b = record {
   room = b .room;
   held = λ g k x h. absurd (omega arith);
   only = λ g k x p q m. absurd (bit-zero g (rw (b .zeros (k * 32 + x)) at m));
@@ -70,14 +70,8 @@ module _ (ls : List Word) (g k : ℕ) (t : List ℕ) (h : Holds ls (g * 25 + k) 
 
       only : (j q y : ℕ) → q < 25 → y < 32 → HasMark (withMark t (k * 32 + x) g) j q y → Dec (q * 32 + y ≡ k * 32 + x) → Dec (j ≡ g)
           → (j * 25 + q < g * 25 + (k + 1)) × Marked (getD ls j []) q y
-      only j q y r s b (no e) d = wider (h .only j q y r s (mark-elsewhere t (k * 32 + x) g inside (q * 32 + y) j e b))
-        where
-          wider : (j * 25 + q < g * 25 + k) × Marked (getD ls j []) q y → (j * 25 + q < g * 25 + (k + 1)) × Marked (getD ls j []) q y
-          wider (p, m) = (omega arith, m)
-      only j q y r s b (yes e) (no d) = wider (h .only j q y r s (mark-of-other t (k * 32 + x) g inside (q * 32 + y) j e d b))
-        where
-          wider : (j * 25 + q < g * 25 + k) × Marked (getD ls j []) q y → (j * 25 + q < g * 25 + (k + 1)) × Marked (getD ls j []) q y
-          wider (p, m) = (omega arith, m)
+      only j q y r s b (no e) d = let (p, m) = h .only j q y r s (mark-elsewhere t (k * 32 + x) g inside (q * 32 + y) j e b) in (omega arith, m)
+      only j q y r s b (yes e) (no d) = let (p, m) = h .only j q y r s (mark-of-other t (k * 32 + x) g inside (q * 32 + y) j e d b) in (omega arith, m)
       only j q y r s b (yes e) (yes d) =
           let f : q ≡ k = omega arith in
           let z : y ≡ x = omega arith in
@@ -98,9 +92,9 @@ module _ (ls : List Word) (g k : ℕ) (t : List ℕ) (h : Holds ls (g * 25 + k) 
           h .held j q y (omega arith) r s m
 
 -- the marks of word g, letter after letter, and the one behind the last
-module _ (ls : List Word) (g k : ℕ) (t : List ℕ) (word : Word) (e : getD ls g [] ≡ word) (short : length word ≤ 24) (h : Holds ls (g * 25 + k) t) where
-  pub letter-marked : (x : ℕ) → k < length word → x ≡ column (getD word k 0) → Holds ls (g * 25 + (k + 1)) (withMark t (k * 32 + x) g)
-  letter-marked x l c =
+module _ {ls : List Word} {t : List ℕ} {word : Word} (g k : ℕ) (e : getD ls g [] ≡ word) (short : length word ≤ 24) (h : Holds ls (g * 25 + k) t) where
+  pub letter-marked : {x : ℕ} → k < length word → x ≡ column (getD word k 0) → Holds ls (g * 25 + (k + 1)) (withMark t (k * 32 + x) g)
+  letter-marked {x} l c =
       let low = column-range (getD word k 0) .1 in
       holds-next ls g k t h (omega arith) (rw e (omega arith)) x (omega arith) (rw e (column-at word k l ∙ sym c))
 
@@ -111,8 +105,8 @@ module _ (ls : List Word) (g k : ℕ) (t : List ℕ) (word : Word) (e : getD ls 
       holds-rest ls g (k + 1) (withMark t (k * 32) g) (rw z at n) (omega arith) (rw e (omega arith))
 
 -- all rows of all words are done
-pub holds-end : (ls : List Word) (n : ℕ) (t : List ℕ) → n ≡ length ls → Indexable ls → Holds ls (n * 25) t → Indexed ls t
-holds-end ls n t e i h = record {
+pub holds-end : {ls : List Word} {t : List ℕ} (n : ℕ) → n ≡ length ls → Indexable ls → Holds ls (n * 25) t → Indexed ls t
+holds-end n e i h = record {
   words = i;
   room = h .room;
   held = λ g k x p q r m. h .held g k x (omega arith) q r m;

@@ -1,48 +1,23 @@
 -- Laws of the search at one place: what each turn of `begun_by` leaves in its two masks.
 use mathlib.Core.Path.{_≡_, refl, sym, ap, _∙_}
-use mathlib.Core.Bool.{Bool, true, false, true≢false, false≢true}
+use mathlib.Core.Bool.{true, false, true≢false}
 use mathlib.Core.Logic.{_⊎_, inl, inr}
-use mathlib.Core.List.{List, [], _∷_}
-use Prim.Native.Nat.{ℕ, zero, suc, _+_, _-_, _*_, _≤_, _<_}
+use mathlib.Core.List.{List, []}
+use Prim.Native.Nat.{ℕ, _+_, _*_, _≤_, _<_}
 use native.Mathlib.Decide.{ℕ-discrete}
 use native.Mathlib.Nat.{add-zero}
-use native.Mathlib.Numerals.{add-one}
 use native.Mathlib.Omega.{arith}
-use lib.ListN.{length, getD, drop, drop-of-length-le}
-use lib.Seq.{drop-cons}
+use lib.ListN.{length, getD, drop}
 use lib.Bits.{bitAnd, bitOr}
-use borrow.Author.Tests.{eq-eqb, ne-eqb}
-use Rattle.words.specs.Word.{Word, Letter}
+use Rattle.words.specs.Word.{Word}
 use Rattle.words.specs.Place.{begins}
 use Rattle.words.proofs.Every.{all-at}
 use Rattle.leads.specs.Masks.{bit}
 use Rattle.leads.specs.Index.{column, columnIn, Marked, HasMark, Indexed}
 use Rattle.leads.specs.SpotOfWords.{BegunBy}
 use Rattle.leads.proofs.Bits.{and-out, and-in, or-out, or-left, or-right, bit-zero, bit-all}
-use Rattle.leads.proofs.Columns.{column-range, column-own, column-at, column-behind}
-
--- what follows the first k letters of both words
-module _ (b v : Word) (k : ℕ) where
-  rest-empty : length b ≤ k → begins (drop k b) (drop k v) ≡ true
-  unfolding begins
-  rest-empty h = rw (drop-of-length-le b h)
-
-  rest-ends : k < length b → length v ≤ k → begins (drop k b) (drop k v) ≡ false
-  unfolding begins
-  rest-ends h l = rw (drop-cons b k 0 h, drop-of-length-le v l)
-
-  module _ (h : k < length b) (l : k < length v) where
-    rest-agrees : getD b k 0 ≡ getD v k 0 → begins (drop (k + 1) b) (drop (k + 1) v) ≡ begins (drop k b) (drop k v)
-    unfolding begins
-    rest-agrees e = rw (drop-cons b k 0 h, drop-cons v k 0 l, begins, eq-eqb (getD b k 0) (getD v k 0) e, add-one k)
-
-    rest-letter : begins (drop k b) (drop k v) ≡ true → getD b k 0 ≡ getD v k 0
-    unfolding begins
-    rest-letter e = go (ℕ-discrete (getD b k 0) (getD v k 0))
-      where
-        go : Dec (getD b k 0 ≡ getD v k 0) → getD b k 0 ≡ getD v k 0
-        go (yes d) = d
-        go (no n) = absurd (true≢false (sym e ∙ rw (drop-cons b k 0 h, drop-cons v k 0 l, begins, ne-eqb (getD b k 0) (getD v k 0) n)))
+use Rattle.leads.proofs.Beginnings.{rest-empty, rest-ends, rest-agrees, rest-letter}
+use Rattle.leads.proofs.Columns.{column-range, column-at, column-behind, end-of, letter-of}
 
 -- Before the turn of row k: `begun` has words that v begins with; `left` has words of at least k letters, the first k of which are v's;
 -- and no word that v begins with is lost.
@@ -58,10 +33,8 @@ record Taken (ls : List Word) (v : Word) (k left begun : ℕ) : Type 0 where
   agree : (g : ℕ) → g < length ls → bit left g ≡ 1 → begins (drop k (getD ls g [])) (drop k v) ≡ begins (getD ls g []) v
   kept : (g : ℕ) → g < length ls → begins (getD ls g []) v ≡ true → (bit begun g ≡ 1) ⊎ ((bit left g ≡ 1) × (k < length (getD ls g [])))
 
-module _ (ls : List Word) (t : List ℕ) (v : Word) (i : Indexed ls t) where
-  abbrev word : ℕ → Word
-  word g = getD ls g []
-
+module _ {ls : List Word} {t : List ℕ} {v : Word} (i : Indexed ls t) where
+  -- all words are left
   pub sieve-start : Sieve ls v 0 18446744073709551615 0
   sieve-start = record {
     whole = λ g b. absurd (bit-zero g b);
@@ -70,79 +43,54 @@ module _ (ls : List Word) (t : List ℕ) (v : Word) (i : Indexed ls t) where
     kept = λ g h e. inr (bit-all g (let f = i .words .few in omega arith));
   }
 
-  -- the mark of a word's letter in row k is at no other column than the letter's, and that of its end at column 0
-  module _ (g k : ℕ) where
-    end-of : Marked (word g) k 0 → length (word g) ≤ k
-    end-of m = go (ℕ-discrete k (length (word g)))
-      where
-        go : Dec (k ≡ length (word g)) → length (word g) ≤ k
-        go (yes e) = omega arith
-        go (no n) =
-            let r = m .row in
-            let e = column-at (word g) k (omega arith) in
-            let q = m .at in
-            let c = column-range (getD (word g) k 0) .0 in
-            absurd (omega arith)
-
-    letter-of : (a : ℕ) → g < length ls → Marked (word g) k (column a) → (k < length (word g)) × (getD (word g) k 0 ≡ a)
-    letter-of a h m = go (ℕ-discrete k (length (word g)))
-      where
-        go : Dec (k ≡ length (word g)) → (k < length (word g)) × (getD (word g) k 0 ≡ a)
-        go (yes e) =
-            let z = column-behind (word g) k (omega arith) in
-            let q = m .at in
-            let c = column-range a .0 in
-            absurd (omega arith)
-        go (no n) =
-            let r = m .row in
-            let l : k < length (word g) = omega arith in
-            (l, sym (column-own a (getD (word g) k 0) (all-at (all-at (i .words .lettered) [] g h) 0 k l) (sym (m .at) ∙ column-at (word g) k l)))
-
-  module _ (k left begun : ℕ) (few : k < 25) (s : Sieve ls v k left begun) where
+  module _ {k left begun : ℕ} (few : k < 25) (s : Sieve ls v k left begun) where
     abbrev begun' : ℕ
     begun' = bitOr begun (bitAnd left (getD t (k * 32) 0))
 
-    ends-there : (g : ℕ) → bit (getD t (k * 32) 0) g ≡ 1 → (g < length ls) × Marked (word g) k 0
+    -- a bit of row k's column 0 is that of a word of k letters
+    ends-there : (g : ℕ) → bit (getD t (k * 32) 0) g ≡ 1 → (g < length ls) × Marked (getD ls g []) k 0
     ends-there g b = i .only g k 0 few (omega arith) (rw (add-zero (k * 32)) b)
 
+    -- the words of k letters are taken
     taken : Taken ls v k left begun'
     taken = record { whole = λ g b. whole g (or-out begun (bitAnd left (getD t (k * 32) 0)) g b); agree = s .agree; kept = λ g h e. kept g h (s .kept g h e) }
       where
-        whole : (g : ℕ) → (bit begun g ≡ 1) ⊎ (bit (bitAnd left (getD t (k * 32) 0)) g ≡ 1) → (g < length ls) × (begins (word g) v ≡ true)
+        whole : (g : ℕ) → (bit begun g ≡ 1) ⊎ (bit (bitAnd left (getD t (k * 32) 0)) g ≡ 1) → (g < length ls) × (begins (getD ls g []) v ≡ true)
         whole g (inl b) = s .whole g b
         whole g (inr b) =
             let (l, e) = and-out left (getD t (k * 32) 0) g b in
             let (h, m) = ends-there g e in
-            (h, sym (s .agree g h l) ∙ rest-empty (word g) v k (end-of g k m))
+            (h, sym (s .agree g h l) ∙ rest-empty (getD ls g []) v k (end-of (getD ls g []) k m))
 
-        kept : (g : ℕ) → g < length ls → (bit begun g ≡ 1) ⊎ (bit left g ≡ 1) → (bit begun' g ≡ 1) ⊎ ((bit left g ≡ 1) × (k < length (word g)))
+        kept : (g : ℕ) → g < length ls → (bit begun g ≡ 1) ⊎ (bit left g ≡ 1) → (bit begun' g ≡ 1) ⊎ ((bit left g ≡ 1) × (k < length (getD ls g [])))
         kept g h (inl b) = inl (or-left begun (bitAnd left (getD t (k * 32) 0)) g b)
-        kept g h (inr b) = go (ℕ-discrete k (length (word g)))
+        kept g h (inr b) = go (ℕ-discrete k (length (getD ls g [])))
           where
-            go : Dec (k ≡ length (word g)) → (bit begun' g ≡ 1) ⊎ ((bit left g ≡ 1) × (k < length (word g)))
+            go : Dec (k ≡ length (getD ls g [])) → (bit begun' g ≡ 1) ⊎ ((bit left g ≡ 1) × (k < length (getD ls g [])))
             go (no n) = let l = s .long g h b in inr (b, omega arith)
             go (yes e) =
-                let m : HasMark t g k 0 = i .held g k 0 h few (omega arith) (record { row = omega arith; at = column-behind (word g) k (omega arith) }) in
+                let m : HasMark t g k 0 = i .held g k 0 h few (omega arith) (record { row = omega arith; at = column-behind (getD ls g []) k (omega arith) }) in
                 inl (or-right begun (bitAnd left (getD t (k * 32) 0)) g (and-in left (getD t (k * 32) 0) g b (rw (add-zero (k * 32)) at m)))
 
     -- v ends: no word of `left` goes on
     pub sieve-ends : length v ≤ k → BegunBy ls v begun'
     sieve-ends l g = (taken .whole g, λ q. go (q .0) (q .1) (taken .kept g (q .0) (q .1)))
       where
-        go : g < length ls → begins (word g) v ≡ true → (bit begun' g ≡ 1) ⊎ ((bit left g ≡ 1) × (k < length (word g))) → bit begun' g ≡ 1
+        go : g < length ls → begins (getD ls g []) v ≡ true → (bit begun' g ≡ 1) ⊎ ((bit left g ≡ 1) × (k < length (getD ls g []))) → bit begun' g ≡ 1
         go h e (inl b) = b
-        go h e (inr (b, z)) = absurd (true≢false (sym e ∙ sym (taken .agree g h b) ∙ rest-ends (word g) v k z l))
+        go h e (inr (b, z)) = absurd (true≢false (sym e ∙ sym (taken .agree g h b) ∙ rest-ends (getD ls g []) v k z l))
 
-    module _ (l : k < length v) (x : ℕ) (c : x ≡ column (getD v k 0)) where
+    module _ (l : k < length v) {x : ℕ} (c : x ≡ column (getD v k 0)) where
       abbrev left' : ℕ
       left' = bitAnd left (getD t (k * 32 + x) 0)
 
-      there : (g : ℕ) → bit left' g ≡ 1 → (bit left g ≡ 1) × (k < length (word g)) × (getD (word g) k 0 ≡ getD v k 0)
+      -- a bit that is left is that of a word with v's letter at place k
+      there : (g : ℕ) → bit left' g ≡ 1 → (bit left g ≡ 1) × (k < length (getD ls g [])) × (getD (getD ls g []) k 0 ≡ getD v k 0)
       there g b =
           let (p, q) = and-out left (getD t (k * 32 + x) 0) g b in
           let low = column-range (getD v k 0) .1 in
           let (h, m) = i .only g k x few (omega arith) q in
-          let (y, z) = letter-of g k (getD v k 0) h (rw c at m) in
+          let (y, z) = letter-of (getD ls g []) k (getD v k 0) (all-at (i .words .lettered) [] g h) (rw c at m) in
           (p, y, z)
 
       -- one letter more
@@ -150,19 +98,20 @@ module _ (ls : List Word) (t : List ℕ) (v : Word) (i : Indexed ls t) where
       sieve-next = record {
         whole = taken .whole;
         long = λ g h b. let (p, q, r) = there g b in omega arith;
-        agree = λ g h b. let (p, q, r) = there g b in rest-agrees (word g) v k q l r ∙ taken .agree g h p;
+        agree = λ g h b. let (p, q, r) = there g b in rest-agrees (getD ls g []) v k q l r ∙ taken .agree g h p;
         kept = λ g h e. kept g h e (taken .kept g h e);
       }
         where
-          kept : (g : ℕ) → g < length ls → begins (word g) v ≡ true → (bit begun' g ≡ 1) ⊎ ((bit left g ≡ 1) × (k < length (word g))) → (bit begun' g ≡ 1) ⊎ (bit left' g ≡ 1)
+          kept : (g : ℕ) → g < length ls → begins (getD ls g []) v ≡ true → (bit begun' g ≡ 1) ⊎ ((bit left g ≡ 1) × (k < length (getD ls g [])))
+              → (bit begun' g ≡ 1) ⊎ (bit left' g ≡ 1)
           kept g h e (inl b) = inl b
           kept g h e (inr (b, z)) =
               let low = column-range (getD v k 0) .1 in
-              let d = rest-letter (word g) v k z l (taken .agree g h b ∙ e) in
-              let f : columnIn (word g) k ≡ x = column-at (word g) k z ∙ ap column d ∙ sym c in
+              let d = rest-letter (getD ls g []) v k z l (taken .agree g h b ∙ e) in
+              let f : columnIn (getD ls g []) k ≡ x = column-at (getD ls g []) k z ∙ ap column d ∙ sym c in
               inr (and-in left (getD t (k * 32 + x) 0) g b (i .held g k x h few (omega arith) (record { row = omega arith; at = f })))
 
-      -- no word goes on
+      -- no word is left
       pub sieve-none : left' ≡ 0 → BegunBy ls v begun'
       sieve-none e g = (taken .whole g, λ q. go (sieve-next .kept g (q .0) (q .1)))
         where
@@ -171,9 +120,9 @@ module _ (ls : List Word) (t : List ℕ) (v : Word) (i : Indexed ls t) where
           go (inr b) = absurd (bit-zero g (rw e at b))
 
   -- no word has 25 letters
-  pub sieve-end : (k left begun : ℕ) → Sieve ls v k left begun → 25 ≤ k → BegunBy ls v begun
-  sieve-end k left begun s h g = (s .whole g, λ q. go (q .0) (s .kept g (q .0) (q .1)))
+  pub sieve-end : {k left begun : ℕ} → Sieve ls v k left begun → 25 ≤ k → BegunBy ls v begun
+  sieve-end {k} {left} {begun} s h g = (s .whole g, λ q. go (q .0) (s .kept g (q .0) (q .1)))
     where
       go : g < length ls → (bit begun g ≡ 1) ⊎ (bit left g ≡ 1) → bit begun g ≡ 1
       go p (inl b) = b
-      go p (inr b) = let l = s .long g p b in let m : length (word g) ≤ 24 = all-at (i .words .short) [] g p in absurd (omega arith)
+      go p (inr b) = let l = s .long g p b in let m : length (getD ls g []) ≤ 24 = all-at (i .words .short) [] g p in absurd (omega arith)

@@ -1,5 +1,4 @@
 -- What this crate's contracts cite.
 pub mod Masks
-pub mod Leads
 pub mod Index
 pub mod SpotOfWords

@@ -3,12 +3,10 @@
 use crate::masks::column;
 use crate::masks::with_bit;
 ghost use mathlib.Core.Path.{_≡_};
-ghost use mathlib.Core.List.{List, []};
-ghost use Prim.Native.Nat.{_+_, _*_, _≤_, _<_};
-ghost use lib.ListN.{length, getD};
-ghost use Rattle.words.specs.Word.{Word};
-ghost use Rattle.leads.specs.Leads.{Laid, leadsOf};
-ghost use Rattle.leads.specs.Index.{withMark, Blank, Indexable, Indexed, Holds};
+ghost use Prim.Native.Nat.{_≤_, _<_};
+ghost use lib.ListN.{length};
+ghost use Rattle.words.specs.Laid.{Laid, laidWords};
+ghost use Rattle.leads.specs.Index.{withMark, Blank, Indexable, Indexed, RowsDone};
 
 // Word g is marked at one place of the table.
 pub fn mark(index: &mut [u64], at: usize, g: usize)
@@ -24,7 +22,7 @@ pub fn fill_word(word: &[u8], g: usize, index: &mut [u64])
     requires { ⌜ g < 64 ⌝ }
     requires { ⌜ length (now word) ≤ 24 ⌝ }
     requires { ⌜ 800 ≤ length (now index) ⌝ }
-    ensures { λ _. ⌜ ((ls : List Word) → getD ls g [] ≡ now (word .entry) → Holds ls (g * 25) (now (index .entry)) → Holds ls (g * 25 + 25) (now (index .exit))) ⌝ }
+    ensures { λ _. ⌜ RowsDone (now (word .entry)) g (now (index .entry)) (now (index .exit)) ⌝ }
 {
     let mut k = 0;
     while k < word.len() {
@@ -38,9 +36,9 @@ pub fn fill_word(word: &[u8], g: usize, index: &mut [u64])
 // The table of the n leading words, where leading word g is the lens[g] bytes from starts[g] on.
 pub fn fill(starts: &[usize], lens: &[usize], bytes: &[u8], n: usize, index: &mut [u64])
     requires { ⌜ Laid (now starts) (now lens) (now bytes) n ⌝ }
-    requires { ⌜ Indexable (leadsOf (now starts) (now lens) (now bytes) n) ⌝ }
+    requires { ⌜ Indexable (laidWords (now starts) (now lens) (now bytes) n) ⌝ }
     requires { ⌜ Blank (now index) ⌝ }
-    ensures { λ _. ⌜ Indexed (leadsOf (now (starts .entry)) (now (lens .entry)) (now (bytes .entry)) n) (now (index .exit)) ⌝ }
+    ensures { λ _. ⌜ Indexed (laidWords (now (starts .entry)) (now (lens .entry)) (now (bytes .entry)) n) (now (index .exit)) ⌝ }
 {
     let mut g = 0;
     while g < n {

@@ -11,7 +11,7 @@ ghost use Rattle.words.specs.Word.{Word};
 ghost use Rattle.leads.specs.Index.{Indexed};
 ghost use Rattle.leads.specs.SpotOfWords.{BegunBy, seen, spotOfWords};
 
-// The mask of the leading words that v begins with. Of `left` are those that agree with v so far and go on, of `begun` those found whole.
+// The mask of the leading words that v begins with. `left` has those that agree with v so far, `begun` those found whole.
 pub fn begun_by(index: &[u64], v: &[u8]) -> u64
     requires { ⌜ 800 ≤ length (now index) ⌝ }
     ensures { λ r. ⌜ ((ls : List Word) → Indexed ls (now (index .entry)) → BegunBy ls (now (v .entry)) r) ⌝ }
@@ -43,11 +43,8 @@ pub fn leftmost_lead(index: &[u64], w: &[u8]) -> Spotted
     loop {
         let begun = begun_by(index, &w[i..]);
         if begun != 0 {
-            let g = lowest(begun);
-            return Spotted::Found {
-                place: i,
-                number: g + 1,
-            };
+            let number = lowest(begun) + 1;
+            return Spotted::Found { place: i, number };
         }
         if w.len() <= i {
             return Spotted::Nowhere;

@@ -14,7 +14,7 @@ use Rattle.algebra.specs.Written.{insert, plus}
 use Rattle.algebra.proofs.Insertion.{insert-written}
 use Rattle.working.specs.Working.{terms, formula, Holds, Working}
 use Rattle.working.specs.Polynomial.{polyTerm, polyAt}
-use Rattle.working.specs.Changes.{single}
+use Rattle.working.specs.Change.{single}
 use Rattle.working.proofs.Terms.{terms-next, terms-end}
 use Rattle.working.proofs.Parts.{part-length}
 
@@ -61,7 +61,7 @@ module _ (K : Operations) (x : ℕ) (left right : Word) (gc gs gl bytes : List �
 
   -- the first of them, with the coefficient y and the word in the first e letters of b
   pub rest-next : (j y e : ℕ) (b : List ℕ) → j < length gc → y ≡ K .mul x (getD gc j 0)
-      → take e (drop 0 b) ≡ around left right (take (getD gl j 0) (drop (getD gs j 0) bytes))
+      → take e b ≡ around left right (take (getD gl j 0) (drop (getD gs j 0) bytes))
       → rest j ≡ single y (take (e - 0) (drop 0 b)) ∷ rest (j + 1)
   rest-next j y e b h d k =
       let s : e - 0 ≡ e = omega arith in

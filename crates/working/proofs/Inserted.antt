@@ -2,7 +2,7 @@
 use mathlib.Core.Path.{_≡_, refl, sym, ap, _∙_}
 use mathlib.Core.Bool.{Bool, true, false}
 use mathlib.Core.Logic.{_≢_}
-use mathlib.Core.List.{List, [], _∷_, _++_}
+use mathlib.Core.List.{List, [], _++_}
 use Prim.Native.Nat.{ℕ, _+_, _-_, _≤_, _<_}
 use native.Mathlib.Decide.{decLt}
 use native.Mathlib.Omega.{arith}
@@ -14,7 +14,8 @@ use Rattle.algebra.specs.Poly.{Term, Poly}
 use Rattle.algebra.specs.Written.{put, insert}
 use Rattle.algebra.proofs.Insertion.{put-zero, put-some, insert-onto, insert-before, insert-behind}
 use Rattle.working.specs.Working.{termAt, terms, formula}
-use Rattle.working.specs.Changes.{Belongs, single, onto, before}
+use Rattle.working.specs.Sorted.{Belongs}
+use Rattle.working.specs.Change.{single, onto, before}
 use Rattle.working.proofs.Terms.{terms-next, terms-end, terms-cut, terms-all}
 use Rattle.working.proofs.Falling.{size-of}
 
@@ -25,7 +26,8 @@ insert-none K O t = refl
 -- t is below the first k of n terms
 module _ (K : Operations) (O : Order) (t : Term) (F : ℕ → Term) (n k : ℕ) (above : (j : ℕ) → j < k → Lt O (t .word) (F j .word)) where
   insert-behind-first : (g : Poly) → terms F 0 n ≡ terms F 0 k ++ g → insert K O t (terms F 0 n) ≡ terms F 0 k ++ insert K O t g
-  insert-behind-first g e = rw e (insert-behind K O t (terms F 0 k) g (terms-all F (λ s. Lt O (t .word) (s .word)) 0 k (λ j a b. above j (omega arith))))
+  insert-behind-first g e =
+      rw e (insert-behind K O t (terms F 0 k) g (terms-all F (λ s. Lt O (t .word) (s .word)) 0 k (λ j a b. above j (omega arith))))
 
   -- and has the word of the next
   pub insert-equal : k < n → O (t .word) (F k .word) ≡ Equal → insert K O t (terms F 0 n) ≡ onto K F n k (t .coef)
@@ -53,16 +55,17 @@ module _ (K : Operations) (O : Order) (t : Term) (F : ℕ → Term) (n k : ℕ) 
         ∙ ap (λ (f : Poly). terms F 0 k ++ f) (insert-first ∙ put-zero K _ _ _ x)
         ∙ sym (terms-cut F k n h)
 
-module _ (p : ℕ) (c l w o : List ℕ) (n k x : ℕ) (v : Word) {present : Bool} (b : Belongs v l w o n k present) where
-  pub insert-present : present ≡ true → insert (fieldOf p) wordOrder (single x v) (formula c l w o n) ≡ onto (fieldOf p) (termAt c l w o) n k x
-  insert-present e = insert-equal (fieldOf p) wordOrder (single x v) (termAt c l w o) n k (b .above) (b .equal e .0) (b .equal e .1)
+element : (p x : ℕ) → Field (fieldOf p) → x < p → fieldOf p .red x ≡ x
+element p x laws h = laws .red-elem x (rw (size-of p) h)
+
+-- f is what the arrays hold after the term x × v was added where the search says that it belongs
+module _ (p : ℕ) (c l w o : List ℕ) (n k x : ℕ) (v : Word) {present : Bool} (b : Belongs v l w o n k present) {f : Poly} where
+  pub added-onto : present ≡ true → f ≡ onto (fieldOf p) (termAt c l w o) n k x → f ≡ insert (fieldOf p) wordOrder (single x v) (formula c l w o n)
+  added-onto e d = d ∙ sym (insert-equal (fieldOf p) wordOrder (single x v) (termAt c l w o) n k (b .above) (b .equal e .0) (b .equal e .1))
 
   module _ (laws : Field (fieldOf p)) (h : x < p) (e : present ≡ false) where
-    element : fieldOf p .red x ≡ x
-    element = laws .red-elem x (rw (size-of p) h)
+    pub added-new : x ≢ 0 → f ≡ before (termAt c l w o) n k x v → f ≡ insert (fieldOf p) wordOrder (single x v) (formula c l w o n)
+    added-new z d = d ∙ sym (insert-new (fieldOf p) wordOrder (single x v) (termAt c l w o) n k (b .above) (b .low) (b .new e) (element p x laws h) z)
 
-    pub insert-absent : x ≢ 0 → insert (fieldOf p) wordOrder (single x v) (formula c l w o n) ≡ before (termAt c l w o) n k x v
-    insert-absent = insert-new (fieldOf p) wordOrder (single x v) (termAt c l w o) n k (b .above) (b .low) (b .new e) element
-
-    pub insert-nothing : x ≡ 0 → insert (fieldOf p) wordOrder (single x v) (formula c l w o n) ≡ formula c l w o n
-    insert-nothing z = insert-zero (fieldOf p) wordOrder (single x v) (termAt c l w o) n k (b .above) (b .low) (b .new e) (element ∙ z)
+    pub added-zero : x ≡ 0 → f ≡ formula c l w o n → f ≡ insert (fieldOf p) wordOrder (single x v) (formula c l w o n)
+    added-zero z d = d ∙ sym (insert-zero (fieldOf p) wordOrder (single x v) (termAt c l w o) n k (b .above) (b .low) (b .new e) (element p x laws h ∙ z))

@@ -8,8 +8,9 @@ use lib.ListN.{length, getD, set, length-set}
 use lib.Seq.{length-sets, getD-set-same, getD-set-other}
 use Rattle.words.specs.Word.{Word}
 use Rattle.algebra.specs.Poly.{Term}
-use Rattle.working.specs.Working.{wordAt, termAt, terms, formula, Room, Holds}
-use Rattle.working.specs.Changes.{Moved, rotatedRight, rotatedLeft, Stored, single, before}
+use Rattle.working.specs.Working.{placed, termAt, terms, formula, Holds}
+use Rattle.working.specs.Rotation.{Moved, rotatedRight, rotatedLeft}
+use Rattle.working.specs.Change.{Stored, single, before}
 use Rattle.working.proofs.Rotations.{left-right, right-below}
 use Rattle.working.proofs.Parts.{part-kept, part-new}
 use Rattle.working.proofs.Terms.{terms-same, terms-right}
@@ -83,4 +84,4 @@ module _ (c l w o : List ℕ) (n x : ℕ) (v : Word) (c' l' w' : List ℕ) (f : 
         let F : ℕ → Term = termAt c l w o in
         let a : terms G 0 k ≡ terms F 0 k = terms-same G F 0 k (λ j _ q. term-kept j (omega arith)) in
         let b : terms G k (n - k) ≡ terms F k (n - k) = terms-same G F k (n - k) (λ j q r. term-kept j (omega arith)) in
-        terms-right (termAt c' l' w' o') G k n h (λ j. ap (λ (s : ℕ). record { coef = getD c' s 0; word = wordAt l' w' s }) (mv .at j)) ∙ rw (a, b, term-new)
+        terms-right (termAt c' l' w' o') G k n h (λ j. ap (placed c' l' w') (mv .at j)) ∙ rw (a, b, term-new)

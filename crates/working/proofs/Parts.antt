@@ -63,7 +63,7 @@ sets-append w i (x ∷ a) b = let e : suc i + length a ≡ i + suc (length a) = 
 pub parts-around : (b b1 b2 b3 left v right : List ℕ) (n r : ℕ) → length v ≡ n → n + (length left + length right) ≤ length b
     → r ≡ length left + n + length right
     → b1 ≡ sets b 0 left → b2 ≡ sets b1 (length left) v → b3 ≡ sets b2 (length left + n) right
-    → take r (drop 0 b3) ≡ around left right v
+    → take r b3 ≡ around left right v
 parts-around b b1 b2 b3 left v right n r q k d e1 e2 e3 =
     let u = around left right v in
     let s : r ≡ length u = rw (length-append, length-append) (omega arith) in

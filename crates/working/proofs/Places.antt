@@ -6,8 +6,10 @@ use native.Mathlib.Omega.{arith}
 use lib.ListN.{length, getD}
 use Rattle.field.specs.Field.{fieldOf}
 use Rattle.words.specs.Order.{wordOrder}
-use Rattle.working.specs.Working.{termAt, Room, Holds, HoldsNone, Working}
-use Rattle.working.specs.Changes.{Moved, Place, Sorted}
+use Rattle.algebra.specs.Written as W
+use Rattle.working.specs.Working.{termAt, terms, Room, Holds, HoldsNone, Working}
+use Rattle.working.specs.Rotation.{Moved}
+use Rattle.working.specs.Sorted.{Place, Sorted}
 use Rattle.working.proofs.Falling.{size-of, written-coef, written-falls}
 
 module _ (c l w o : List ℕ) (n : ℕ) (f : Holds c l w o n) where
@@ -36,7 +38,12 @@ module _ (c l w o : List ℕ) (n : ℕ) (f : Holds c l w o n) where
 
   -- fewer terms
   pub holds-less : (m : ℕ) → m ≤ n → Holds c l w o m
-  holds-less m h = record { count = let q = f .count in omega arith; room = f .room; arranged = f .arranged; short = λ i q. f .short i (omega arith) }
+  holds-less m h = record {
+    count = let q = f .count in omega arith;
+    room = f .room;
+    arranged = f .arranged;
+    short = λ i q. f .short i (omega arith);
+  }
 
 module _ (p : ℕ) (c l w o : List ℕ) (n : ℕ) (f : Working p c l w o n) where
   pub coef-small : (i : ℕ) → i < n → getD c (getD o i 0) 0 < p
@@ -62,6 +69,11 @@ holds-none o e c l w r = record {
   };
   short = λ i h. absurd (omega arith);
 }
+
+-- no term is the zero polynomial, which is in written form
+pub working-none : (p : ℕ) (c l w o : List ℕ) → Holds c l w o 0 → Working p c l w o 0
+unfolding terms
+working-none p c l w o h = record { holds = h; written = W.zero }
 
 -- entries moved about, by a move that can be undone
 module _ (c l w o o' : List ℕ) (n : ℕ) (σ τ : ℕ → ℕ) (undo : (j : ℕ) → τ (σ j) ≡ j)

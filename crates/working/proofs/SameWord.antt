@@ -1,6 +1,6 @@
 -- A coefficient added to that of term k: the term has the sum, or its entry of o is moved behind the others where the sum is 0.
 use mathlib.Core.Path.{_≡_, sym, ap, _∙_}
-use mathlib.Core.List.{List, _∷_, _++_}
+use mathlib.Core.List.{List, _∷_}
 use mathlib.Core.Logic.{_≢_}
 use Prim.Native.Nat.{ℕ, _+_, _-_, _≤_, _<_}
 use native.Mathlib.Omega.{arith}
@@ -10,8 +10,9 @@ use Rattle.field.specs.Field.{Operations, Field}
 use Rattle.algebra.specs.Poly.{Term, Poly}
 use Rattle.algebra.specs.Written.{put}
 use Rattle.algebra.proofs.Insertion.{put-zero, put-some}
-use Rattle.working.specs.Working.{wordAt, termAt, terms, formula, Holds}
-use Rattle.working.specs.Changes.{Moved, rotatedRight, rotatedLeft, onto}
+use Rattle.working.specs.Working.{placed, termAt, terms, formula, Holds}
+use Rattle.working.specs.Rotation.{Moved, rotatedRight, rotatedLeft}
+use Rattle.working.specs.Change.{single, onto}
 use Rattle.working.proofs.Rotations.{right-left, left-below}
 use Rattle.working.proofs.Terms.{terms-next, terms-cut, terms-same, terms-left}
 use Rattle.working.proofs.Places.{coef-in, holds-less, holds-moved}
@@ -46,10 +47,10 @@ module _ {K : Operations} (laws : Field K) (c l w o : List ℕ) (n k x y : ℕ) 
   formula-summed d =
       let G : ℕ → Term = termAt (set c s y) l w o in
       let same : (i : ℕ) → i < n → (i ≡ k → ⊥) → G i ≡ F i = λ i q z. rw (getD-set-other c s (getD o i 0) y 0 (other i q z)) in
-      let here : G k ≡ record { coef = y; word = F k .word } = rw (getD-set-same c s y 0 (coef-in c l w o n f k h)) in
+      let here : G k ≡ single y (F k .word) = rw (getD-set-same c s y 0 (coef-in c l w o n f k h)) in
       let a : terms G 0 k ≡ terms F 0 k = terms-same G F 0 k (λ j _ q. same j (omega arith) (λ z. omega arith)) in
       let b : terms G (k + 1) (n - (k + 1)) ≡ behind = terms-same G F (k + 1) (n - (k + 1)) (λ j q v. same j (omega arith) (λ z. omega arith)) in
-      let p : put K y (F k .word) behind ≡ record { coef = y; word = F k .word } ∷ behind = put-some K y (F k .word) behind (λ z. d (sym r ∙ z)) ∙ rw r in
+      let p : put K y (F k .word) behind ≡ single y (F k .word) ∷ behind = put-some K y (F k .word) behind (λ z. d (sym r ∙ z)) ∙ rw r in
       terms-cut G k n (omega arith) ∙ rw (terms-next G k n h, a, b, here, ← e, p)
 
   module _ (o' : List ℕ) (mv : Moved (rotatedLeft k (n - 1)) o o') where
@@ -64,5 +65,5 @@ module _ {K : Operations} (laws : Field K) (c l w o : List ℕ) (n k x y : ℕ) 
     formula-dropped z =
         let q : k ≤ n - 1 = omega arith in
         let d : n - 1 - k ≡ n - (k + 1) = omega arith in
-        terms-left (termAt c l w o') F k (n - 1) q (λ j. ap (λ (s : ℕ). record { coef = getD c s 0; word = wordAt l w s }) (mv .at j))
+        terms-left (termAt c l w o') F k (n - 1) q (λ j. ap (placed c l w) (mv .at j))
         ∙ rw (d, ← e, put-zero K y (F k .word) behind (r ∙ z))

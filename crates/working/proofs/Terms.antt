@@ -1,18 +1,24 @@
 -- Runs of terms: what is next, how a run splits, and what holds of all of its terms.
-use mathlib.Core.Path.{_≡_, refl, sym, ap, _∙_}
-use mathlib.Core.List.{List, [], _∷_, _++_}
+use mathlib.Core.Path.{_≡_, refl, ap, _∙_}
+use mathlib.Core.List.{[], _∷_, _++_}
 use Prim.Native.Nat.{ℕ, zero, suc, _+_, _-_, _≤_, _<_}
 use native.Mathlib.Numerals.{add-one}
 use native.Mathlib.Decide.{ℕ-discrete}
 use native.Mathlib.Omega.{arith}
-use lib.ListN.{getD}
+use lib.ListN.{length, getD}
 use Rattle.words.specs.All.{All, done, _also_}
 use Rattle.algebra.specs.Poly.{Term, Poly}
 use Rattle.working.specs.Working.{terms}
-use Rattle.working.specs.Changes.{rotatedRight, rotatedLeft}
-use Rattle.working.proofs.Rotations.{right-at, right-low, right-mid, left-low, left-mid}
+use Rattle.working.specs.Rotation.{rotatedRight, rotatedLeft}
+use Rattle.working.proofs.RotationRight.{right-at, right-low, right-mid}
+use Rattle.working.proofs.RotationLeft.{left-low, left-mid}
 
 module _ (F : ℕ → Term) where
+  pub terms-length : (i k : ℕ) → length (terms F i k) ≡ k
+  unfolding terms
+  terms-length i zero = refl
+  terms-length i (suc k) = ap suc (terms-length (suc i) k)
+
   pub terms-next : (i n : ℕ) → i < n → terms F i (n - i) ≡ F i ∷ terms F (i + 1) (n - (i + 1))
   unfolding terms
   terms-next i n h = let e : n - i ≡ suc (n - (i + 1)) = omega arith in rw (e, add-one i)

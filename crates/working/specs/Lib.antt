@@ -1,3 +1,6 @@
 pub mod Working
 pub mod Polynomial
-pub mod Changes
+pub mod Family
+pub mod Rotation
+pub mod Sorted
+pub mod Change

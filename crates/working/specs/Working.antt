@@ -15,9 +15,13 @@ use Rattle.algebra.specs.Written.{Written}
 abbrev pub wordAt : List ℕ → List ℕ → ℕ → Word
 wordAt l w s = take (getD l s 0) (drop (s * 72) w)
 
+-- The term at place s.
+abbrev pub placed : List ℕ → List ℕ → List ℕ → ℕ → Term
+placed c l w s = record { coef = getD c s 0; word = wordAt l w s }
+
 -- Term i, whose place is entry i of o.
 abbrev pub termAt : List ℕ → List ℕ → List ℕ → List ℕ → ℕ → Term
-termAt c l w o i = record { coef = getD c (getD o i 0) 0; word = wordAt l w (getD o i 0) }
+termAt c l w o i = placed c l w (getD o i 0)
 
 -- The terms F i, F (i + 1), ..: k of them.
 unfoldable pub terms : (ℕ → Term) → ℕ → ℕ → Poly

@@ -1,9 +1,8 @@
 // The entries of a slice, one of them moved and those between making room.
 
-ghost use mathlib.Core.Path.{_≡_};
 ghost use Prim.Native.Nat.{_≤_, _<_};
 ghost use lib.ListN.{length};
-ghost use Rattle.working.specs.Changes.{Moved, rotatedRight, rotatedLeft};
+ghost use Rattle.working.specs.Rotation.{Moved, rotatedRight, rotatedLeft};
 
 // Entry n goes to k, and those from k on one to the right.
 pub fn rotate_right(a: &mut [usize], k: usize, n: usize)

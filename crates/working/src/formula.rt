@@ -1,12 +1,12 @@
-// The formula itself: how it starts, and what a term of it is.
+// The formula as a whole: how it starts, and what a term of it is.
 
-use crate::Shown;
+use crate::TermPlace;
 ghost use mathlib.Core.Path.{_≡_};
 ghost use mathlib.Core.List.{[]};
 ghost use Prim.Native.Nat.{_-_, _≤_, _<_};
 ghost use lib.ListN.{length, getD, take, drop};
 ghost use Rattle.working.specs.Working.{formula, Holds, HoldsNone};
-ghost use Rattle.working.specs.Changes.{single};
+ghost use Rattle.working.specs.Change.{single};
 
 // Names the places 0, 1, 2, .. in order: whatever the arrays hold, they then hold the formula of no terms.
 pub fn start(o: &mut [usize])
@@ -20,15 +20,18 @@ pub fn start(o: &mut [usize])
 }
 
 // Term k of the formula of n terms: its coefficient, and where its word starts and ends in w.
-pub fn show(c: &[u32], l: &[usize], w: &[u8], o: &[usize], n: usize, k: usize) -> Shown
+pub fn read_term(c: &[u32], l: &[usize], w: &[u8], o: &[usize], n: usize, k: usize) -> TermPlace
     requires { ⌜ Holds (now c) (now l) (now w) (now o) n ⌝ }
     requires { ⌜ k < n ⌝ }
     ensures { λ r. ⌜ (r .start ≤ r .end) × (r .end ≤ length (now (w .entry))) × (r .end - r .start ≤ 72) ⌝ }
-    ensures { λ r. ⌜ getD (formula (now (c .entry)) (now (l .entry)) (now (w .entry)) (now (o .entry)) n) k (single 0 []) ≡ single (r .coef) (take (r .end - r .start) (drop (r .start) (now (w .entry)))) ⌝ }
+    ensures { λ r. ⌜
+        getD (formula (now (c .entry)) (now (l .entry)) (now (w .entry)) (now (o .entry)) n) k (single 0 [])
+        ≡ single (r .coef) (take (r .end - r .start) (drop (r .start) (now (w .entry))))
+        ⌝ }
 {
     let s = o[k];
     let start = s * 72;
-    Shown {
+    TermPlace {
         coef: c[s],
         start: start,
         end: start + l[s],

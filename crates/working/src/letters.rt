@@ -1,7 +1,6 @@
 // Words written to letters.
 
 ghost use mathlib.Core.Path.{_≡_};
-ghost use mathlib.Core.List.{_++_};
 ghost use Prim.Native.Nat.{_+_, _≤_};
 ghost use lib.ListN.{length, take, drop};
 ghost use lib.Seq.{sets};
@@ -32,7 +31,10 @@ pub fn compose(
     requires { ⌜ start + n ≤ length (now bytes) ⌝ }
     requires { ⌜ n + (length (now left) + length (now right)) ≤ length (now dst) ⌝ }
     ensures { λ r. ⌜ r ≡ n + (length (now (left .entry)) + length (now (right .entry))) ⌝ }
-    ensures { λ r. ⌜ take r (drop 0 (now (dst .exit))) ≡ around (now (left .entry)) (now (right .entry)) (take n (drop start (now (bytes .entry)))) ⌝ }
+    ensures { λ r. ⌜
+        take r (now (dst .exit))
+        ≡ around (now (left .entry)) (now (right .entry)) (take n (drop start (now (bytes .entry))))
+        ⌝ }
 {
     let mid = left.len();
     let end = mid + n;

@@ -4,6 +4,7 @@
 // free places. A term is put in or dropped by moving one entry of `o`; letters stay where they are.
 
 pub mod entries;
+pub mod family;
 pub mod formula;
 pub mod letters;
 pub mod multiple;
@@ -17,7 +18,7 @@ pub struct Position {
 }
 
 // A term: its coefficient, and where in the letters its word starts and ends.
-pub struct Shown {
+pub struct TermPlace {
     pub coef: u32,
     pub start: usize,
     pub end: usize,

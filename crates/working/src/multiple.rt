@@ -38,7 +38,11 @@ pub fn add_multiple(
     requires { ⌜ (n + length (now gc) ≤ length (now o)) × (72 ≤ length (now buf)) ⌝ }
     ensures { λ r. ⌜ r ≤ n + length (now (gc .entry)) ⌝ }
     ensures { λ r. ⌜ Working p (now (c .exit)) (now (l .exit)) (now (w .exit)) (now (o .exit)) r ⌝ }
-    ensures { λ r. ⌜ formula (now (c .exit)) (now (l .exit)) (now (w .exit)) (now (o .exit)) r ≡ plus (fieldOf p) wordOrder (formula (now (c .entry)) (now (l .entry)) (now (w .entry)) (now (o .entry)) n) (scale (fieldOf p) x (shift (now (left .entry)) (now (right .entry)) (polyAt (now (gc .entry)) (now (gs .entry)) (now (gl .entry)) (now (bytes .entry))))) ⌝ }
+    ensures { λ r. ⌜
+        formula (now (c .exit)) (now (l .exit)) (now (w .exit)) (now (o .exit)) r
+        ≡ plus (fieldOf p) wordOrder (formula (now (c .entry)) (now (l .entry)) (now (w .entry)) (now (o .entry)) n)
+        (scale (fieldOf p) x (shift (now (left .entry)) (now (right .entry)) (polyAt (now (gc .entry)) (now (gs .entry)) (now (gl .entry)) (now (bytes .entry)))))
+        ⌝ }
 {
     let mut j = 0;
     let mut k = n;

@@ -6,7 +6,7 @@ use words::order::compare;
 ghost use mathlib.Core.Path.{_≡_};
 ghost use Rattle.words.specs.Order.{wordOrder};
 ghost use Rattle.working.specs.Working.{wordAt};
-ghost use Rattle.working.specs.Changes.{Place, Sorted, Belongs};
+ghost use Rattle.working.specs.Sorted.{Place, Sorted, Belongs};
 
 // How v stands to the word at place s.
 pub fn compare_at(v: &[u8], l: &[usize], w: &[u8], s: usize) -> Comparison

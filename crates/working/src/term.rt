@@ -12,7 +12,7 @@ ghost use Rattle.field.specs.Field.{Field, fieldOf};
 ghost use Rattle.words.specs.Order.{wordOrder};
 ghost use Rattle.algebra.specs.Written.{insert};
 ghost use Rattle.working.specs.Working.{termAt, formula, Room, Holds, Working};
-ghost use Rattle.working.specs.Changes.{Stored, onto, before, single};
+ghost use Rattle.working.specs.Change.{Stored, onto, before, single};
 
 // Stores the term x × v at place s.
 pub fn store(x: u32, v: &[u8], c: &mut [u32], l: &mut [usize], w: &mut [u8], s: usize)
@@ -40,7 +40,10 @@ pub fn put_before(
     requires { ⌜ (k ≤ n) × (n < length (now o)) ⌝ }
     requires { ⌜ Holds (now c) (now l) (now w) (now o) n ⌝ }
     ensures { λ _. ⌜ Holds (now (c .exit)) (now (l .exit)) (now (w .exit)) (now (o .exit)) (n + 1) ⌝ }
-    ensures { λ _. ⌜ formula (now (c .exit)) (now (l .exit)) (now (w .exit)) (now (o .exit)) (n + 1) ≡ before (termAt (now (c .entry)) (now (l .entry)) (now (w .entry)) (now (o .entry))) n k x (now (v .entry)) ⌝ }
+    ensures { λ _. ⌜
+        formula (now (c .exit)) (now (l .exit)) (now (w .exit)) (now (o .exit)) (n + 1)
+        ≡ before (termAt (now (c .entry)) (now (l .entry)) (now (w .entry)) (now (o .entry))) n k x (now (v .entry))
+        ⌝ }
 {
     let s = o[n];
     store(x, v, c, l, w, s);
@@ -64,7 +67,10 @@ pub fn add_onto(
     requires { ⌜ Working p (now c) (now l) (now w) (now o) n ⌝ }
     ensures { λ r. ⌜ r ≤ n ⌝ }
     ensures { λ r. ⌜ Holds (now (c .exit)) (now (l .entry)) (now (w .entry)) (now (o .exit)) r ⌝ }
-    ensures { λ r. ⌜ formula (now (c .exit)) (now (l .entry)) (now (w .entry)) (now (o .exit)) r ≡ onto (fieldOf p) (termAt (now (c .entry)) (now (l .entry)) (now (w .entry)) (now (o .entry))) n k x ⌝ }
+    ensures { λ r. ⌜
+        formula (now (c .exit)) (now (l .entry)) (now (w .entry)) (now (o .exit)) r
+        ≡ onto (fieldOf p) (termAt (now (c .entry)) (now (l .entry)) (now (w .entry)) (now (o .entry))) n k x
+        ⌝ }
 {
     let s = o[k];
     let y = add(p, x, c[s]);
@@ -92,7 +98,10 @@ pub fn add_term(
     requires { ⌜ Working p (now c) (now l) (now w) (now o) n ⌝ }
     ensures { λ r. ⌜ r ≤ n + 1 ⌝ }
     ensures { λ r. ⌜ Holds (now (c .exit)) (now (l .exit)) (now (w .exit)) (now (o .exit)) r ⌝ }
-    ensures { λ r. ⌜ formula (now (c .exit)) (now (l .exit)) (now (w .exit)) (now (o .exit)) r ≡ insert (fieldOf p) wordOrder (single x (now (v .entry))) (formula (now (c .entry)) (now (l .entry)) (now (w .entry)) (now (o .entry)) n) ⌝ }
+    ensures { λ r. ⌜
+        formula (now (c .exit)) (now (l .exit)) (now (w .exit)) (now (o .exit)) r
+        ≡ insert (fieldOf p) wordOrder (single x (now (v .entry))) (formula (now (c .entry)) (now (l .entry)) (now (w .entry)) (now (o .entry)) n)
+        ⌝ }
 {
     let f = find(v, l, w, o, n);
     if f.present {

@@ -3,9 +3,10 @@ use mathlib.Core.Path.{_≡_}
 use Prim.Native.Nat.{_+_, _-_, _*_, _≤_}
 use native.Mathlib.Omega.{arith}
 use lib.ListN.{length}
-use Rattle.leads.specs.Leads.{leadsOf}
+use Rattle.words.specs.Laid.{laidWords}
 use Rattle.leads.specs.Index.{Holds}
-use Rattle.leads.proofs.LeadingWords.{leads-length, leads-few, lead-part, part-short}
+use Rattle.words.proofs.LaidWords.{laid-length}
+use Rattle.leads.proofs.LeadingWords.{leads-few, lead-part, part-short}
 use Rattle.leads.proofs.Marks.{holds-start, holds-end}
 use borrow.Author.Needs.{needs}
 use Rattle.leads.proofs.filling.fill.Statement.{statement}
@@ -18,21 +19,15 @@ Inv-loop starts lens bytes n index₀ g₀ index g =
     × (n ≤ length starts)
     × (n ≤ length lens)
     × (length index ≡ length index₀)
-    × Holds (leadsOf starts lens bytes n) (g * 25) index
+    × Holds (laidWords starts lens bytes n) (g * 25) index
 
 abbrev μ-loop : tie.MeasureT-loop
 μ-loop starts lens bytes n index₀ g₀ index g = n - g
 
 loop-holds : tie.Need-loop-holds Inv-loop μ-loop
 loop-holds c =
-    let z = c .before .before .before .before in (
-      search needs,
-      leads-few (z .args .starts .now) (z .args .lens .now) (z .args .bytes .now) (z .args .n) (z .pre .1 .0),
-      z .pre .0 .starting,
-      z .pre .0 .ending,
-      search needs,
-      holds-start (leadsOf (z .args .starts .now) (z .args .lens .now) (z .args .bytes .now) (z .args .n)) (z .args .index .now) (z .pre .1 .1),
-    )
+    let z = c .before .before .before .before in
+    (search needs, leads-few (z .args .starts .now) (z .args .lens .now) (z .args .bytes .now) (z .args .n) (z .pre .1 .0), z .pre .0 .starting, z .pre .0 .ending, search needs, holds-start (z .pre .1 .1))
 
 mul-start : tie.Need-mul-start Inv-loop μ-loop
 mul-start c = search needs
@@ -64,10 +59,10 @@ part-fill-word-end c =
 
 fill-word-requires : tie.Need-fill-word-requires Inv-loop μ-loop
 fill-word-requires c κs =
-    let m = c .before .before .before .before .before in
     let z = c .before .before .before .before .before .before .before .before .before .before in
+    let m = c .before .before .before .before .before .loop in
     let t = c .before .before .before .before .loop-test .taken in
-    (omega arith, (part-short (z .args .starts .now) (z .args .lens .now) (z .args .bytes .now) (z .args .n) (z .pre .1 .0) (m .loop .g) t, m .loop .inv .5 .room))
+    (omega arith, (part-short (z .args .starts .now) (z .args .lens .now) (z .args .bytes .now) (z .args .n) (z .pre .1 .0) (m .g) t, m .inv .5 .room))
 
 add-g : tie.Need-add-g Inv-loop μ-loop
 add-g c = search needs
@@ -77,11 +72,11 @@ loop-less c = search needs
 
 loop-again : tie.Need-loop-again Inv-loop μ-loop
 loop-again c =
-    let m = c .before .before .before .before .before .before .before .before in
     let z = c .before .before .before .before .before .before .before .before .before .before .before .before .before in
+    let m = c .before .before .before .before .before .before .before .before .loop in
     let t = c .before .before .before .before .before .before .before .loop-test .taken in
-    let e : m .loop .g * 25 + 25 ≡ (m .loop .g + 1) * 25 = omega arith in
-    let h = c .before .before .fill-word .ensures (leadsOf (z .args .starts .now) (z .args .lens .now) (z .args .bytes .now) (z .args .n)) (lead-part (z .args .starts .now) (z .args .lens .now) (z .args .bytes .now) (z .args .n) (m .loop .g) t) (m .loop .inv .5) in
+    let e : m .g * 25 + 25 ≡ (m .g + 1) * 25 = omega arith in
+    let h = c .before .before .fill-word .ensures _ (lead-part (z .args .starts .now) (z .args .lens .now) (z .args .bytes .now) (z .args .n) (m .g) t) (m .inv .5) in
     (search needs, search needs, search needs, search needs, search needs, rw e at h)
 
 same-length : tie.Need-same-length Inv-loop μ-loop
@@ -89,10 +84,10 @@ same-length c = search needs
 
 returns : tie.Need-returns Inv-loop μ-loop
 returns c =
-    let m = c .before in
     let z = c .before .before .before .before .before .before in
-    let e = leads-length (z .args .starts .now) (z .args .lens .now) (z .args .bytes .now) (z .args .n) in
-    holds-end (leadsOf (z .args .starts .now) (z .args .lens .now) (z .args .bytes .now) (z .args .n)) (m .loop .g) (m .loop .index) (omega arith) (z .pre .1 .0) (m .loop .inv .5)
+    let m = c .before .loop in
+    let e = laid-length (z .args .starts .now) (z .args .lens .now) (z .args .bytes .now) (z .args .n) in
+    holds-end (m .g) (omega arith) (z .pre .1 .0) (m .inv .5)
 
 pub fill-spec : {M : Type 1} → statement M
 fill-spec =

@@ -49,15 +49,11 @@ loop-less c = search needs
 
 loop-again : tie.Need-loop-again Inv-loop μ-loop
 loop-again c =
-    let m = c .before .before .before .before .before .before .before in
     let z = c .before .before .before .before .before .before .before .before .before .before in
-    let w = c .before .before .mark in (
-      search needs,
-      search needs,
-      λ ls e h. rw (w .ensures)
-          (letter-marked ls (z .args .g) (m .loop .k) (m .loop .index) (z .args .word .now) e (z .pre .1 .0) (m .loop .inv .2 ls e h)
-          (c .before .before .before .before .column .result) (c .before .before .before .before .before .before .loop-test .taken) (c .before .before .before .before .column .ensures .0)),
-    )
+    let m = c .before .before .before .before .before .before .before .loop in
+    let t = c .before .before .before .before .before .before .loop-test .taken in
+    let x = c .before .before .before .before .column .ensures .0 in
+    (search needs, search needs, λ ls e h. rw (c .before .before .mark .ensures) (letter-marked (z .args .g) (m .k) e (z .pre .1 .0) (m .inv .2 ls e h) t x))
 
 mul-mark-2 : tie.Need-mul-mark-2 Inv-loop μ-loop
 mul-mark-2 c = search needs
@@ -70,11 +66,9 @@ same-length c = search needs
 
 returns : tie.Need-returns Inv-loop μ-loop
 returns c =
-    let m = c .before .before .before .before .before in
     let z = c .before .before .before .before .before .before .before .before in
-    let w = c .before .before .mark2 in
-    λ ls e h. rw (w .ensures)
-    (end-marked ls (z .args .g) (m .loop .k) (m .loop .index) (z .args .word .now) e (z .pre .1 .0) (m .loop .inv .2 ls e h) (omega arith))
+    let m = c .before .before .before .before .before .loop in
+    λ ls e h. rw (c .before .before .mark2 .ensures) (end-marked (z .args .g) (m .k) e (z .pre .1 .0) (m .inv .2 ls e h) (omega arith))
 
 pub fill-word-spec : {M : Type 1} → statement M
 fill-word-spec =

@@ -16,9 +16,7 @@ abbrev μ-loop : tie.MeasureT-loop
 μ-loop index v left₀ begun₀ k₀ left begun k = 25 - k
 
 loop-holds : tie.Need-loop-holds Inv-loop μ-loop
-loop-holds c =
-    let z = c .before .before in
-    (search needs, λ ls i. sieve-start ls (z .args .index .now) (z .args .v .now) i)
+loop-holds c = (search needs, λ ls i. sieve-start i)
 
 mul-begun : tie.Need-mul-begun Inv-loop μ-loop
 mul-begun c = search needs
@@ -30,10 +28,7 @@ shared-slice-read-begun : tie.Need-shared-slice-read-begun Inv-loop μ-loop
 shared-slice-read-begun c = search needs
 
 returns : tie.Need-returns Inv-loop μ-loop
-returns c =
-    let m = c .before .before .before in
-    let z = c .before .before .before .before .before .before in
-    λ ls i. sieve-ends ls (z .args .index .now) (z .args .v .now) i (m .loop .k) (m .loop .left) (m .loop .begun) (c .before .before .loop-test .taken) (m .loop .inv .1 ls i) (c .if1 .taken)
+returns c = λ ls i. sieve-ends i (c .before .before .loop-test .taken) (c .before .before .before .loop .inv .1 ls i) (c .if1 .taken)
 
 shared-slice-read-column : tie.Need-shared-slice-read-column Inv-loop μ-loop
 shared-slice-read-column c = search needs
@@ -55,10 +50,9 @@ shared-slice-read-left c = search needs
 
 returns-2 : tie.Need-returns-2 Inv-loop μ-loop
 returns-2 c =
-    let m = c .before .before .before .before .before .before .before in
-    let z = c .before .before .before .before .before .before .before .before .before .before in
-    λ ls i. sieve-none ls (z .args .index .now) (z .args .v .now) i (m .loop .k) (m .loop .left) (m .loop .begun) (c .before .before .before .before .before .before .loop-test .taken) (m .loop .inv .1 ls i)
-    (omega arith) (c .before .before .column .result) (c .before .before .column .ensures .0) (c .if2 .taken)
+    let t = c .before .before .before .before .before .before .loop-test .taken in
+    let s = c .before .before .before .before .before .before .before .loop .inv .1 in
+    λ ls i. sieve-none i t (s ls i) (omega arith) (c .before .before .column .ensures .0) (c .if2 .taken)
 
 add-k : tie.Need-add-k Inv-loop μ-loop
 add-k c = search needs
@@ -68,18 +62,12 @@ loop-less c = search needs
 
 loop-again : tie.Need-loop-again Inv-loop μ-loop
 loop-again c =
-    let m = c .before .before .before .before .before .before .before in
-    let z = c .before .before .before .before .before .before .before .before .before .before in (
-      search needs,
-      λ ls i. sieve-next ls (z .args .index .now) (z .args .v .now) i (m .loop .k) (m .loop .left) (m .loop .begun) (c .before .before .before .before .before .before .loop-test .taken) (m .loop .inv .1 ls i)
-          (omega arith) (c .before .before .column .result) (c .before .before .column .ensures .0),
-    )
+    let t = c .before .before .before .before .before .before .loop-test .taken in
+    let s = c .before .before .before .before .before .before .before .loop .inv .1 in
+    (search needs, λ ls i. sieve-next i t (s ls i) (omega arith) (c .before .before .column .ensures .0))
 
 returns-3 : tie.Need-returns-3 Inv-loop μ-loop
-returns-3 c =
-    let m = c .before in
-    let z = c .before .before .before .before in
-    λ ls i. sieve-end ls (z .args .index .now) (z .args .v .now) i (m .loop .k) (m .loop .left) (m .loop .begun) (m .loop .inv .1 ls i) (c .loop-test .left)
+returns-3 c = λ ls i. sieve-end i (c .before .loop .inv .1 ls i) (c .loop-test .left)
 
 pub begun-by-spec : {M : Type 1} → statement M
 begun-by-spec =

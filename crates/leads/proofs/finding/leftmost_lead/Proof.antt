@@ -7,7 +7,7 @@ use lib.ListN.{length, drop}
 use Rattle.words.specs.Word.{Word}
 use Rattle.leads.specs.Index.{Indexed}
 use Rattle.leads.specs.SpotOfWords.{seen, spotOfWordsFrom, spotOfWords}
-use Rattle.leads.proofs.Spotting.{spot-start, spot-here, spot-later, spot-end, begun-rest}
+use Rattle.leads.proofs.Places.{spot-start, spot-here, spot-later, spot-end}
 use borrow.Author.Needs.{needs}
 use Rattle.leads.proofs.finding.leftmost_lead.Statement.{statement}
 use Rattle.leads.proofs.finding.leftmost_lead.Tie as tie
@@ -19,9 +19,7 @@ abbrev μ-loop : tie.MeasureT-loop
 μ-loop index w i₀ i = length w - i
 
 loop-holds : tie.Need-loop-holds Inv-loop μ-loop
-loop-holds c =
-    let z = c .before .before in
-    (search needs, λ ls i. spot-start ls (z .args .w .now))
+loop-holds c = (search needs, λ ls i. spot-start ls (c .before .before .args .w .now))
 
 sub-begun-by : tie.Need-sub-begun-by Inv-loop μ-loop
 sub-begun-by c = search needs
@@ -38,24 +36,24 @@ begun-by-requires c κs = search needs
 lowest-requires : tie.Need-lowest-requires Inv-loop μ-loop
 lowest-requires c κs = search needs
 
-add-t11 : tie.Need-add-t11 Inv-loop μ-loop
-add-t11 c = search needs
+add-number : tie.Need-add-number Inv-loop μ-loop
+add-number c = search needs
 
 returns : tie.Need-returns Inv-loop μ-loop
 unfolding seen
 returns c =
-    let m = c .before .before .before .before in
-    let z = c .before .before .before .before .before .before .before in
-    let b = c .before .before .begun-by in
-    λ ls i. sym (spot-here ls (z .args .w .now) (m .loop .i) (b .result) (begun-rest ls (z .args .w .now) (m .loop .i) (b .result) (b .ensures ls i)) (c .lowest .result) (c .lowest .ensures .1)) ∙ m .loop .inv .1 ls i
+    let w = c .before .before .before .before .before .before .before .args .w .now in
+    let m = c .before .before .before .before .loop in
+    let b = c .before .before .begun-by .ensures in
+    λ ls i. sym (spot-here ls w (m .i) _ (b ls i) _ (c .lowest .ensures .1)) ∙ m .inv .1 ls i
 
 returns-2 : tie.Need-returns-2 Inv-loop μ-loop
 unfolding seen
 returns-2 c =
-    let m = c .before .before .before .before in
-    let z = c .before .before .before .before .before .before .before in
-    let b = c .before .before .begun-by in
-    λ ls i. sym (spot-end ls (z .args .w .now) (m .loop .i) (b .result) (begun-rest ls (z .args .w .now) (m .loop .i) (b .result) (b .ensures ls i)) (c .before .if1 .left) (c .if2 .taken)) ∙ m .loop .inv .1 ls i
+    let w = c .before .before .before .before .before .before .before .args .w .now in
+    let m = c .before .before .before .before .loop in
+    let b = c .before .before .begun-by .ensures in
+    λ ls i. sym (spot-end ls w (m .i) _ (b ls i) (c .before .if1 .left) (c .if2 .taken)) ∙ m .inv .1 ls i
 
 add-i : tie.Need-add-i Inv-loop μ-loop
 add-i c = search needs
@@ -65,10 +63,10 @@ loop-less c = search needs
 
 loop-again : tie.Need-loop-again Inv-loop μ-loop
 loop-again c =
-    let m = c .before .before .before .before in
-    let z = c .before .before .before .before .before .before .before in
-    let b = c .before .before .begun-by in
-    (search needs, λ ls i. spot-later ls (z .args .w .now) (m .loop .i) (b .result) (begun-rest ls (z .args .w .now) (m .loop .i) (b .result) (b .ensures ls i)) (c .before .if1 .left) (omega arith) ∙ m .loop .inv .1 ls i)
+    let w = c .before .before .before .before .before .before .before .args .w .now in
+    let m = c .before .before .before .before .loop in
+    let b = c .before .before .begun-by .ensures in
+    (search needs, λ ls i. spot-later ls w (m .i) _ (b ls i) (c .before .if1 .left) (omega arith) ∙ m .inv .1 ls i)
 
 pub leftmost-lead-spec : {M : Type 1} → statement M
 leftmost-lead-spec =
@@ -82,7 +80,7 @@ leftmost-lead-spec =
     part-begun-by-end
     begun-by-requires
     lowest-requires
-    add-t11
+    add-number
     returns
     returns-2
     add-i

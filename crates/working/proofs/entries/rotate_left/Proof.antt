@@ -2,8 +2,8 @@
 use mathlib.Core.Path.{_≡_}
 use Prim.Native.Nat.{ℕ, _-_, _≤_}
 use lib.ListN.{length, getD}
-use Rattle.working.specs.Changes.{shiftedLeft}
-use Rattle.working.proofs.Rotations.{shift-left-turn, shift-left-start, moved-left}
+use Rattle.working.specs.Rotation.{shiftedLeft}
+use Rattle.working.proofs.RotationLeft.{shift-left-turn, shift-left-start, moved-left}
 use borrow.Author.Needs.{needs}
 use Rattle.working.proofs.entries.rotate_left.Statement.{statement}
 use Rattle.working.proofs.entries.rotate_left.Tie as tie

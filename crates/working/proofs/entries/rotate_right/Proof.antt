@@ -2,8 +2,8 @@
 use mathlib.Core.Path.{_≡_}
 use Prim.Native.Nat.{ℕ, _≤_}
 use lib.ListN.{length, getD}
-use Rattle.working.specs.Changes.{shiftedRight}
-use Rattle.working.proofs.Rotations.{shift-right-turn, shift-right-start, moved-right}
+use Rattle.working.specs.Rotation.{shiftedRight}
+use Rattle.working.proofs.RotationRight.{shift-right-turn, shift-right-start, moved-right}
 use borrow.Author.Needs.{needs}
 use Rattle.working.proofs.entries.rotate_right.Statement.{statement}
 use Rattle.working.proofs.entries.rotate_right.Tie as tie

@@ -1,5 +1,4 @@
 -- `compose` is left × word × right: three words stored one behind the other.
-use mathlib.Core.Path.{_≡_}
 use Prim.Native.Nat.{_+_}
 use lib.ListN.{length, take, drop}
 use Rattle.working.proofs.Parts.{cut, part-length, parts-around}
@@ -39,14 +38,16 @@ same-length c = search needs
 
 returns : tie.Need-returns
 returns c =
-    let z = c .before .before .before .before .before .before .before .before .before .before .before .before .before .before .before .before .before in
+    let third = c .before .before in
+    let second = third .before .before .before .before in
+    let first = second .before .before .before .before .before in
+    let z = first .before .before .before .before .before .before in
     let a = z .args in
-    let e1 = c .before .before .before .before .before .before .before .before .before .before .before .copy-to .ensures in
-    let e2 = c .before .before .before .before .before .before .copy-to2 .ensures in
-    let e3 = c .before .before .copy-to3 .ensures in (
+    let word = take (a .n) (drop (a .start) (a .bytes .now)) in
+    let all = length (a .left .now) + a .n + length (a .right .now) in (
       search needs,
-      parts-around (a .dst .now) _ _ _ (a .left .now) (take (a .n) (drop (a .start) (a .bytes .now))) (a .right .now) (a .n) (length (a .left .now) + a .n + length (a .right .now))
-          (part-length (a .start) (a .n) (a .bytes .now) (z .pre .0)) (z .pre .1) (search needs) e1 (rw cut at e2) e3,
+      parts-around (a .dst .now) _ _ _ (a .left .now) word (a .right .now) (a .n) all (part-length (a .start) (a .n) (a .bytes .now) (z .pre .0))
+          (z .pre .1) (search needs) (first .copy-to .ensures) (rw cut at (second .copy-to2 .ensures)) (third .copy-to3 .ensures),
     )
 
 pub compose-spec : {M : Type 1} → statement M

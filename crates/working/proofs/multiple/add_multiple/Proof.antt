@@ -1,5 +1,5 @@
 -- `add_multiple` is the sum with the multiple. The loop's invariant: what is held, with the terms that are left added, is that sum.
-use mathlib.Core.Path.{_≡_, refl, sym, ap, _∙_}
+use mathlib.Core.Path.{refl, ap, _∙_}
 use Prim.Native.Nat.{_+_, _-_, _≤_}
 use native.Mathlib.Omega.{arith}
 use lib.ListN.{length}
@@ -32,8 +32,16 @@ loop-holds c =
       search needs,
       search needs,
       record { coefs = refl; lens = refl; letters = refl; places = refl; word = refl },
-      record { working = z .pre .1 .1 .0; sum = ap (plus (fieldOf (a .p)) wordOrder _) (rest-all (fieldOf (a .p)) (a .x) (a .left .now) (a .right .now) (a .gc .now) (a .gs .now) (a .gl .now) (a .bytes .now)) },
+      record {
+        working = z .pre .1 .1 .0;
+        sum = ap (plus (fieldOf (a .p)) wordOrder _)
+            (rest-all (fieldOf (a .p)) (a .x) (a .left .now) (a .right .now) (a .gc .now) (a .gs .now) (a .gl .now) (a .bytes .now));
+      },
     )
+
+-- from the top of a turn back to the start
+abbrev start : tie.In-loop Inv-loop μ-loop → tie.Start Inv-loop μ-loop
+start i = i .before .before .before .before .before .before .before .before .before .before .before .before .before
 
 mul-mul : tie.Need-mul-mul Inv-loop μ-loop
 mul-mul c = search needs
@@ -43,31 +51,41 @@ shared-slice-read-mul c = search needs
 
 mul-requires : tie.Need-mul-requires Inv-loop μ-loop
 mul-requires c κs =
-    let z = c .before .before .before .before .before .before .before .before .before .before .before .before .before .before in
-    let m = c .before .before .loop in
-    let t = c .before .loop-test .taken in
+    let i = c .before in
+    let z = start i in
+    let m = i .before .loop in
+    let t = i .loop-test .taken in
     (z .pre .0 .0, z .pre .0 .1, z .pre .1 .0 .small (m .j) t)
 
 mul-compose : tie.Need-mul-compose Inv-loop μ-loop
-mul-compose c = let g = c .before .before .before .before .before .before .before .before .before .before .before .before .before .before .before .before .pre .1 .0 .starts in search needs
+mul-compose c =
+    let same = start (c .before .before .before) .pre .1 .0 .starts in
+    search needs
 
 shared-slice-read-compose : tie.Need-shared-slice-read-compose Inv-loop μ-loop
-shared-slice-read-compose c = let g = c .before .before .before .before .before .before .before .before .before .before .before .before .before .before .before .before .before .pre .1 .0 .starts in search needs
+shared-slice-read-compose c =
+    let same = start (c .before .before .before .before) .pre .1 .0 .starts in
+    search needs
 
 mul-compose-2 : tie.Need-mul-compose-2 Inv-loop μ-loop
-mul-compose-2 c = let g = c .before .before .before .before .before .before .before .before .before .before .before .before .before .before .before .before .before .pre .1 .0 .lens in search needs
+mul-compose-2 c =
+    let same = start (c .before .before .before .before) .pre .1 .0 .lens in
+    search needs
 
 shared-slice-read-compose-2 : tie.Need-shared-slice-read-compose-2 Inv-loop μ-loop
-shared-slice-read-compose-2 c = let g = c .before .before .before .before .before .before .before .before .before .before .before .before .before .before .before .before .before .before .pre .1 .0 .lens in search needs
+shared-slice-read-compose-2 c =
+    let same = start (c .before .before .before .before .before) .pre .1 .0 .lens in
+    search needs
 
 compose-requires : tie.Need-compose-requires Inv-loop μ-loop
 compose-requires c κs =
-    let z = c .before .before .before .before .before .before .before .before .before .before .before .before .before .before .before .before .before .before in
-    let m = c .before .before .before .before .before .before .loop in
-    let t = c .before .before .before .before .before .loop-test .taken in
-    let q = z .pre .1 .0 .short (m .j) t in
-    let r = z .pre .1 .1 .1 .1 in
-    let s = m .inv .2 .word in
+    let i = c .before .before .before .before .before in
+    let z = start i in
+    let m = i .before .loop in
+    let t = i .loop-test .taken in
+    let short = z .pre .1 .0 .short (m .j) t in
+    let room = z .pre .1 .1 .1 .1 in
+    let same = m .inv .2 .word in
     (z .pre .1 .0 .inside (m .j) t, omega arith)
 
 sub-add-term : tie.Need-sub-add-term Inv-loop μ-loop
@@ -78,37 +96,43 @@ part-add-term-start c = search needs
 
 part-add-term-end : tie.Need-part-add-term-end Inv-loop μ-loop
 part-add-term-end c =
-    let z = c .before .before .before .before .before .before .before .before .before .before .before .before .before .before .before .before .before .before .before .before .before .before in
-    let m = c .before .before .before .before .before .before .before .before .before .before .loop in
-    let t = c .before .before .before .before .before .before .before .before .before .loop-test .taken in
-    let b = c .before .before .before .compose in
-    let e = b .ensures .0 in
-    let k = b .kept .0 in
-    let q = z .pre .1 .0 .short (m .j) t in
-    let r = z .pre .1 .1 .1 .1 in
-    let s = m .inv .2 .word in
+    let b = c .before .before .before in
+    let i = b .before .before .before .before .before .before in
+    let z = start i in
+    let m = i .before .loop in
+    let t = i .loop-test .taken in
+    let size = b .compose .ensures .0 in
+    let kept = b .compose .kept .0 in
+    let short = z .pre .1 .0 .short (m .j) t in
+    let room = z .pre .1 .1 .1 .1 in
+    let same = m .inv .2 .word in
     omega arith
 
 add-term-requires : tie.Need-add-term-requires Inv-loop μ-loop
 add-term-requires c κs =
-    let z = c .before .before .before .before .before .before .before .before .before .before .before .before .before .before .before .before .before .before .before .before .before .before .before .before .before .before .before in
-    let m = c .before .before .before .before .before .before .before .before .before .before .before .before .before .before .before .loop in
-    let t = c .before .before .before .before .before .before .before .before .before .before .before .before .before .before .loop-test .taken in
-    let b = c .before .before .before .before .before .before .before .before .compose in
-    let y = c .before .before .before .before .before .before .before .before .before .before .before .before .mul in
-    let q = z .pre .1 .0 .short (m .j) t in
-    let e = b .ensures .0 in
-    let short = word-short (b .result) (b .last .0) (omega arith) (let k = b .kept .0 in let r = z .pre .1 .1 .1 .1 in let s = m .inv .2 .word in omega arith) in
-    let r = z .pre .1 .1 .1 .0 in
-    let s = m .inv .2 .places in
-    let k = m .inv .1 in
-    ((z .pre .0 .0, y .ensures .1, z .pre .0 .2), ((short, omega arith), m .inv .3 .working))
+    let b = c .before .before .before .before .before .before .before .before in
+    let y = b .before .before .before .before in
+    let i = y .before .before in
+    let z = start i in
+    let m = i .before .loop in
+    let t = i .loop-test .taken in
+    let size = b .compose .ensures .0 in
+    let kept = b .compose .kept .0 in
+    let short = z .pre .1 .0 .short (m .j) t in
+    let room = z .pre .1 .1 .1 in
+    let less = m .inv .1 in
+    let same = m .inv .2 in
+    let word = word-short (b .compose .result) (b .compose .last .0) (omega arith) (let r = room .1 in let s = same .word in omega arith) in
+    ((z .pre .0 .0, y .mul .ensures .1, z .pre .0 .2), ((word, let r = room .0 in let s = same .places in omega arith), m .inv .3 .working))
 
 add-j : tie.Need-add-j Inv-loop μ-loop
 add-j c =
-    let z = c .before .before .before .before .before .before .before .before .before .before .before .before .before .before .before .before .before .before .before .before .before .before .before .before .before .before .before .before .before .before .before .before .before .before .before .before in
-    let m = c .before .before .before .before .before .before .before .before .before .before .before .before .before .before .before .before .before .before .before .before .before .before .before .before .loop in
-    let t = c .before .before .before .before .before .before .before .before .before .before .before .before .before .before .before .before .before .before .before .before .before .before .before .loop-test .taken in
+    let d = c .before .before .before .before .before .before .before .before in
+    let b = d .before .before .before .before .before .before .before .before .before in
+    let i = b .before .before .before .before .before .before in
+    let z = start i in
+    let m = i .before .loop in
+    let t = i .loop-test .taken in
     let g = z .good in
     record { fits = omega arith }
 
@@ -117,25 +141,29 @@ loop-less c = search needs
 
 loop-again : tie.Need-loop-again Inv-loop μ-loop
 loop-again c =
-    let z = c .before .before .before .before .before .before .before .before .before .before .before .before .before .before .before .before .before .before .before .before .before .before .before .before .before .before .before .before .before .before .before .before .before .before .before .before in
-    let m = c .before .before .before .before .before .before .before .before .before .before .before .before .before .before .before .before .before .before .before .before .before .before .before .before .loop in
-    let t = c .before .before .before .before .before .before .before .before .before .before .before .before .before .before .before .before .before .before .before .before .before .before .before .loop-test .taken in
+    let d = c .before .before .before .before .before .before .before .before in
+    let b = d .before .before .before .before .before .before .before .before .before in
+    let y = b .before .before .before .before in
+    let i = y .before .before in
+    let z = start i in
+    let m = i .before .loop in
+    let t = i .loop-test .taken in
     let a = z .args in
-    let b = c .before .before .before .before .before .before .before .before .before .before .before .before .before .before .before .before .before .compose in
-    let y = c .before .before .before .before .before .before .before .before .before .before .before .before .before .before .before .before .before .before .before .before .before .mul in
-    let d = c .before .before .before .before .before .before .before .before .add-term in
-    let s = m .inv .2 in (
+    let same = m .inv .2 in
+    let kept = d .add-term .kept .1 .1 .1 in
+    let e = d .add-term .ensures in
+    let next = rest-next (fieldOf (a .p)) (a .x) (a .left .now) (a .right .now) (a .gc .now) (a .gs .now) (a .gl .now) (a .bytes .now)
+    (m .j) (y .mul .result) (b .compose .result) (b .compose .last .0) t (y .mul .ensures .0) (b .compose .ensures .1) in (
       omega arith,
-      let q = d .ensures .0 in let r = m .inv .1 in omega arith,
+      let q = e .0 in let r = m .inv .1 in omega arith,
       record {
-        coefs = d .kept .1 .1 .1 .0 ∙ s .coefs;
-        lens = d .kept .1 .1 .1 .1 .0 ∙ s .lens;
-        letters = d .kept .1 .1 .1 .1 .1 .0 ∙ s .letters;
-        places = d .kept .1 .1 .1 .1 .1 .1 .0 ∙ s .places;
-        word = b .kept .0 ∙ s .word;
+        coefs = kept .0 ∙ same .coefs;
+        lens = kept .1 .0 ∙ same .lens;
+        letters = kept .1 .1 .0 ∙ same .letters;
+        places = kept .1 .1 .1 .0 ∙ same .places;
+        word = b .compose .kept .0 ∙ same .word;
       },
-      adding-next _ _ _ _ _ _ _ _ _ _ _ _ _ _ _ (z .pre .0 .2) (m .inv .3)
-          (rest-next (fieldOf (a .p)) (a .x) (a .left .now) (a .right .now) (a .gc .now) (a .gs .now) (a .gl .now) (a .bytes .now) (m .j) (y .result) (b .result) (b .last .0) t (y .ensures .0) (b .ensures .1)) (d .ensures .1 .0) (d .ensures .1 .1),
+      adding-next _ _ _ _ _ _ _ _ _ _ _ _ _ _ _ (z .pre .0 .2) (m .inv .3) next (e .1 .0) (e .1 .1),
     )
 
 same-length : tie.Need-same-length Inv-loop μ-loop
@@ -155,13 +183,14 @@ same-length-5 c = search needs
 
 returns : tie.Need-returns Inv-loop μ-loop
 returns c =
-    let a = c .before .before .before .before .before .before .before .before .before .before .before .before .before .args in
-    let m = c .before .loop in
-    let g = m .inv .3 in
-    let r = c .loop-test .left in (
-      let q = m .inv .1 in let s = m .inv .0 in omega arith,
-      (g .working, adding-end _ _ _ _ _ _ _ _ g (rest-end (fieldOf (a .p)) (a .x) (a .left .now) (a .right .now) (a .gc .now) (a .gs .now) (a .gl .now) (a .bytes .now) (m .j) r)),
-    )
+    let m = c .before in
+    let z = m .before .before .before .before .before .before .before .before .before .before .before .before in
+    let a = z .args in
+    let less = m .loop .inv .1 in
+    let most = m .loop .inv .0 in
+    let adding = m .loop .inv .3 in
+    let all = rest-end (fieldOf (a .p)) (a .x) (a .left .now) (a .right .now) (a .gc .now) (a .gs .now) (a .gl .now) (a .bytes .now) (m .loop .j) (c .loop-test .left) in
+    (omega arith, (adding .working, adding-end _ _ _ _ _ _ _ _ adding all))
 
 pub add-multiple-spec : {M : Type 1} → statement M
 add-multiple-spec =

@@ -6,7 +6,7 @@ use lib.ListN.{getD}
 use Rattle.words.specs.declared.Comparison.the-variants.{Above}
 use Rattle.words.specs.Order.{Lt, wordOrder}
 use Rattle.working.specs.Working.{wordAt}
-use Rattle.working.proofs.Halving.{told, below-all, belongs-equal, belongs-new}
+use Rattle.working.proofs.Halving.{below-all, belongs-equal, above-here, belongs-new}
 use borrow.Author.Needs.{needs}
 use Rattle.working.proofs.search.find.Statement.{statement}
 use Rattle.working.proofs.search.find.Tie as tie
@@ -37,7 +37,9 @@ shared-slice-read-compare-at : tie.Need-shared-slice-read-compare-at Inv-loop μ
 shared-slice-read-compare-at c = search needs
 
 compare-at-requires : tie.Need-compare-at-requires Inv-loop μ-loop
-compare-at-requires c κs = c .before .before .before .before .before .before .before .pre .place _ (search needs)
+compare-at-requires c κs =
+    let z = c .before .before .before .before .before .before .before in
+    z .pre .place _ (search needs)
 
 enum-told : tie.Need-enum-told Inv-loop μ-loop
 enum-told c = search needs
@@ -50,22 +52,22 @@ loop-less c = search needs
 
 loop-again : tie.Need-loop-again Inv-loop μ-loop
 loop-again c =
-    let m = c .before .before .before .before .before .loop in
-    let z = c .before .before .before .before .before .before .before .before .before .before in
-    let a = z .args in
-    let q = c .before .before .compare-at .ensures in
-    (search needs, search needs, below-all (a .v .now) (a .l .now) (a .w .now) (a .o .now) (a .n) (m .lo + (m .hi - m .lo) / 2) (z .pre) (search needs) q (c .enum-told .given .1), search needs)
+    let q = c .before .before in
+    let m = q .before .before .before in
+    let z = m .before .before .before .before .before in
+    let half = m .loop .lo + (m .loop .hi - m .loop .lo) / 2 in
+    (search needs, search needs, below-all _ _ _ _ _ half (z .pre) (search needs) (q .compare-at .ensures) (c .enum-told .given .1), search needs)
 
 enum-told-2 : tie.Need-enum-told-2 Inv-loop μ-loop
 enum-told-2 c = search needs
 
 returns : tie.Need-returns Inv-loop μ-loop
 returns c =
-    let m = c .before .before .before .before .before .loop in
-    let z = c .before .before .before .before .before .before .before .before .before .before in
-    let a = z .args in
-    let q = c .before .before .compare-at .ensures in
-    belongs-equal (a .v .now) (a .l .now) (a .w .now) (a .o .now) (a .n) (m .lo + (m .hi - m .lo) / 2) (z .pre) (search needs) q (c .enum-told2 .given .1)
+    let q = c .before .before in
+    let m = q .before .before .before in
+    let z = m .before .before .before .before .before in
+    let half = m .loop .lo + (m .loop .hi - m .loop .lo) / 2 in
+    belongs-equal _ _ _ _ _ half (z .pre) (search needs) (q .compare-at .ensures) (c .enum-told2 .given .1)
 
 enum-told-3 : tie.Need-enum-told-3 Inv-loop μ-loop
 enum-told-3 c = search needs
@@ -75,15 +77,18 @@ loop-less-2 c = search needs
 
 loop-again-2 : tie.Need-loop-again-2 Inv-loop μ-loop
 loop-again-2 c =
-    let m = c .before .before .before .before .before .loop in
-    let q = c .before .before .compare-at .ensures in
-    (search needs, search needs, m .inv .2, λ _. told q (c .enum-told3 .given .1))
+    let q = c .before .before in
+    let m = q .before .before .before in
+    let z = m .before .before .before .before .before in
+    let half = m .loop .lo + (m .loop .hi - m .loop .lo) / 2 in
+    (search needs, search needs, m .loop .inv .2, above-here _ _ _ _ _ half (z .pre) (search needs) (q .compare-at .ensures) (c .enum-told3 .given .1))
 
 returns-2 : tie.Need-returns-2 Inv-loop μ-loop
 returns-2 c =
-    let m = c .before .loop in
-    let a = c .before .before .before .before .before .before .args in
-    belongs-new (a .v .now) (a .l .now) (a .w .now) (a .o .now) (a .n) (m .lo) (m .hi) (search needs) (search needs) (m .inv .2) (m .inv .3)
+    let m = c .before in
+    let z = m .before .before .before .before .before in
+    let a = z .args in
+    belongs-new (a .v .now) (a .l .now) (a .w .now) (a .o .now) (a .n) (m .loop .lo) (m .loop .hi) (search needs) (search needs) (m .loop .inv .2) (m .loop .inv .3)
 
 pub find-spec : {M : Type 1} → statement M
 find-spec =

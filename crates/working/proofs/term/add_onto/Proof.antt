@@ -1,5 +1,4 @@
 -- `add_onto` adds to the term's coefficient: the sum is stored, or the term's entry moved behind the others.
-use mathlib.Core.Path.{_≡_}
 use Rattle.working.proofs.Places.{coef-in, coef-small}
 use Rattle.working.proofs.SameWord.{holds-summed, formula-summed, holds-dropped, formula-dropped}
 use borrow.Author.Needs.{needs}
@@ -13,10 +12,16 @@ slice-read-s : tie.Need-slice-read-s
 slice-read-s c = search needs
 
 mul-add : tie.Need-mul-add
-mul-add c = let z = c .before .before .before .before .before in let q = coef-in _ _ _ _ _ (z .pre .1 .1 .holds) _ (z .pre .1 .0) in search needs
+mul-add c =
+    let z = c .before .before .before .before .before in
+    let q = coef-in _ _ _ _ _ (z .pre .1 .1 .holds) _ (z .pre .1 .0) in
+    search needs
 
 slice-read-add : tie.Need-slice-read-add
-slice-read-add c = let z = c .before .before .before .before .before .before in let q = coef-in _ _ _ _ _ (z .pre .1 .1 .holds) _ (z .pre .1 .0) in search needs
+slice-read-add c =
+    let z = c .before .before .before .before .before .before in
+    let q = coef-in _ _ _ _ _ (z .pre .1 .1 .holds) _ (z .pre .1 .0) in
+    search needs
 
 add-requires : tie.Need-add-requires
 add-requires c κs =
@@ -37,30 +42,33 @@ same-length c = search needs
 
 returns : tie.Need-returns
 returns c =
-    let z = c .before .before .before .before .before .before .before .before .before .before .before .before in
-    let laws = z .pre .0 .2 in
-    let f = z .pre .1 .1 .holds in
-    let e = c .before .before .before .before .before .add .ensures .0 in
-    let mv = c .before .before .rotate-left .ensures in
-    let t = c .before .before .before .before .if1 .taken in
-    (search needs, (holds-dropped laws _ _ _ _ _ _ (z .args .x) _ f (z .pre .1 .0) e _ mv, formula-dropped laws _ _ _ _ _ _ (z .args .x) _ f (z .pre .1 .0) e _ mv t))
+    let r = c .before .before in
+    let t = r .before .before in
+    let s = t .before in
+    let z = s .before .before .before .before .before .before .before in
+    let moved = r .rotate-left .ensures in
+    (search needs, (holds-dropped (z .pre .0 .2) _ _ _ _ _ _ (z .args .x) _ (z .pre .1 .1 .holds) (z .pre .1 .0) (s .add .ensures .0) _ moved, formula-dropped (z .pre .0 .2) _ _ _ _ _ _ (z .args .x) _ (z .pre .1 .1 .holds) (z .pre .1 .0) (s .add .ensures .0) _ moved (t .if1 .taken)))
 
 mul-c : tie.Need-mul-c
-mul-c c = let z = c .before .before .before .before .before .before .before .before in let q = coef-in _ _ _ _ _ (z .pre .1 .1 .holds) _ (z .pre .1 .0) in search needs
+mul-c c =
+    let z = c .before .before .before .before .before .before .before .before in
+    let q = coef-in _ _ _ _ _ (z .pre .1 .1 .holds) _ (z .pre .1 .0) in
+    search needs
 
 slice-write-c : tie.Need-slice-write-c
-slice-write-c c = let z = c .before .before .before .before .before .before .before .before in let q = coef-in _ _ _ _ _ (z .pre .1 .1 .holds) _ (z .pre .1 .0) in search needs
+slice-write-c c =
+    let z = c .before .before .before .before .before .before .before .before in
+    let q = coef-in _ _ _ _ _ (z .pre .1 .1 .holds) _ (z .pre .1 .0) in
+    search needs
 
 same-length-2 : tie.Need-same-length-2
 same-length-2 c = search needs
 
 returns-2 : tie.Need-returns-2
 returns-2 c =
-    let z = c .before .before .before .before .before .before .before .before in
-    let laws = z .pre .0 .2 in
-    let f = z .pre .1 .1 .holds in
-    let e = c .before .add .ensures .0 in
-    (search needs, (holds-summed laws _ _ _ _ _ _ (z .args .x) _ f (z .pre .1 .0) e, formula-summed laws _ _ _ _ _ _ (z .args .x) _ f (z .pre .1 .0) e (c .if1 .left)))
+    let s = c .before in
+    let z = s .before .before .before .before .before .before .before in
+    (search needs, (holds-summed (z .pre .0 .2) _ _ _ _ _ _ (z .args .x) _ (z .pre .1 .1 .holds) (z .pre .1 .0) (s .add .ensures .0), formula-summed (z .pre .0 .2) _ _ _ _ _ _ (z .args .x) _ (z .pre .1 .1 .holds) (z .pre .1 .0) (s .add .ensures .0) (c .if1 .left)))
 
 pub add-onto-spec : {M : Type 1} → statement M
 add-onto-spec =

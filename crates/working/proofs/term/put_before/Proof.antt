@@ -33,12 +33,14 @@ same-length-4 c = search needs
 
 returns : tie.Need-returns
 returns c =
-    let z = c .before .before .before .before .before .before .before .before .before .before .before .before .before .before .before .before .before .before .before .before in
-    let st = c .before .before .before .before .before .before .before .before .before .before .store .ensures in
-    let mv = c .before .before .rotate-right .ensures in
+    let r = c .before .before in
+    let s = r .before .before .before .before .before .before .before .before in
+    let z = s .before .before .before .before .before .before .before .before .before .before in
+    let moved = r .rotate-right .ensures in
+    let stored = s .store .ensures in
+    let (low, free) = z .pre .1 .0 in
     let f = z .pre .1 .1 in
-    let b = z .pre .1 .0 in
-    (holds-before _ _ _ _ _ _ _ _ _ _ f (b .1) (z .pre .0) st _ (b .0) _ mv, formula-before _ _ _ _ _ _ _ _ _ _ f (b .1) (z .pre .0) st _ (b .0) _ mv)
+    (holds-before _ _ _ _ _ _ _ _ _ _ f free (z .pre .0) stored _ low _ moved, formula-before _ _ _ _ _ _ _ _ _ _ f free (z .pre .0) stored _ low _ moved)
 
 pub put-before-spec : {M : Type 1} → statement M
 put-before-spec =

@@ -1,21 +1,17 @@
--- The leftmost place of a word of a list: the turns of the search, place after place, and that the spot of the leading words is the spot of their polynomials.
-use mathlib.Core.Path.{_≡_, refl, sym, ap, _∙_}
-use mathlib.Core.Bool.{Bool, true, false, true≢false}
-use mathlib.Core.Logic.{_≢_}
-use mathlib.Core.Option.{Option, none, some}
-use mathlib.Core.List.{List, [], _∷_, map}
+-- Laws of the search, place after place: one for each way through a turn of `leftmost_lead`.
+use mathlib.Core.Path.{_≡_, refl}
+use mathlib.Core.Bool.{Bool, true, false}
+use mathlib.Core.Option.{none, some}
+use mathlib.Core.List.{List, [], _∷_}
 use Prim.Native.Nat.{ℕ, zero, suc, _+_, _-_, _≤_, _<_}
 use native.Mathlib.Numerals.{add-one}
 use native.Mathlib.Omega.{arith}
 use lib.ListN.{length, getD, take, drop, length-drop, drop-of-length-le}
 use lib.Seq.{drop-cons, take-all}
-use Rattle.words.specs.All.{All, done, _also_}
 use Rattle.words.specs.Word.{Word}
 use Rattle.words.specs.Place.{begins}
-use Rattle.algebra.specs.Poly.{Poly}
-use Rattle.algebra.specs.Groebner.{lead}
-use Rattle.algebra.specs.Spot.{Spot, nowhere, found, spotAt, firstBegins, spotFrom, spot}
-use Rattle.leads.specs.Masks.{bit, LowestBit}
+use Rattle.algebra.specs.Spot.{nowhere, found, spotAt}
+use Rattle.leads.specs.Masks.{LowestBit}
 use Rattle.leads.specs.SpotOfWords.{BegunBy, firstBeginning, spotOfWordsFrom, spotOfWords}
 use Rattle.leads.proofs.Bits.{bit-zero}
 
@@ -58,14 +54,22 @@ unfolding spotOfWords
 spot-start ls w = refl
 
 -- the part of w from place i on is what follows its first i letters
-pub begun-rest : (ls : List Word) (w : Word) (i m : ℕ) → BegunBy ls (take (length w - i) (drop i w)) m → BegunBy ls (drop i w) m
-begun-rest ls w i m b = let e = length-drop i w in let z : take (length w - i) (drop i w) ≡ drop i w = take-all (length w - i) (drop i w) (omega arith) in rw z at b
+begun-rest : (ls : List Word) (w : Word) (i m : ℕ) → BegunBy ls (take (length w - i) (drop i w)) m → BegunBy ls (drop i w) m
+begun-rest ls w i m b =
+    let e = length-drop i w in
+    let z : take (length w - i) (drop i w) ≡ drop i w = take-all (length w - i) (drop i w) (omega arith) in
+    rw z at b
 
 -- the turn at place i, where m is the mask of the words that stand there
-module _ (ls : List Word) (w : Word) (i m : ℕ) (b : BegunBy ls (drop i w) m) where
+module _ (ls : List Word) (w : Word) (i m : ℕ) (part : BegunBy ls (take (length w - i) (drop i w)) m) where
+  b : BegunBy ls (drop i w) m
+  b = begun-rest ls w i m part
+
+  -- a word stands here
   pub spot-here : (g : ℕ) → LowestBit m g → spotOfWordsFrom ls (drop i w) i ≡ found i (g + 1)
   spot-here g l = spot-some ls (drop i w) i (g + 1) (first-lowest ls (drop i w) m g b l)
 
+  -- no word stands here, and a letter follows
   pub spot-later : m ≡ 0 → i < length w → spotOfWordsFrom ls (drop (i + 1) w) (i + 1) ≡ spotOfWordsFrom ls (drop i w) i
   unfolding spotOfWordsFrom spotAt
   spot-later e h =
@@ -73,29 +77,10 @@ module _ (ls : List Word) (w : Word) (i m : ℕ) (b : BegunBy ls (drop i w) m) w
       let n = first-zero ls (drop i w) m b e in
       rw (c, spotOfWordsFrom, rw c at n, add-one i)
 
+  -- no word stands here, and w ends
   pub spot-end : m ≡ 0 → length w ≤ i → spotOfWordsFrom ls (drop i w) i ≡ nowhere
   unfolding spotOfWordsFrom spotAt
   spot-end e h =
       let c = drop-of-length-le w h in
       let n = first-zero ls (drop i w) m b e in
       rw (c, spotOfWordsFrom, rw c at n)
-
-first-of-leads : (ps : List Poly) → All (λ f. f ≢ []) ps → (n : ℕ) (w : Word) → firstBeginning (map lead ps) n w ≡ firstBegins ps n w
-unfolding firstBeginning firstBegins lead
-first-of-leads [] h n w = refl
-first-of-leads ([] ∷ ps) (p also q) n w = absurd (p refl)
-first-of-leads ((t ∷ f) ∷ ps) (p also q) n w = go (begins (t .word) w) (first-of-leads ps q (suc n) w)
-  where
-    go : (b : Bool) → {x y : Option ℕ} → x ≡ y → _≡_ {A = Option ℕ} (elim b [ true ↦ some n | false ↦ x ]) (elim b [ true ↦ some n | false ↦ y ])
-    go true e = refl
-    go false e = e
-
-from-of-leads : (ps : List Poly) → All (λ f. f ≢ []) ps → (w : Word) (i : ℕ) → spotOfWordsFrom (map lead ps) w i ≡ spotFrom ps w i
-unfolding spotOfWordsFrom spotFrom
-from-of-leads ps h [] i = rw (first-of-leads ps h 1 [])
-from-of-leads ps h (a ∷ w) i = rw (first-of-leads ps h 1 (a ∷ w), from-of-leads ps h w (suc i))
-
--- the spot of the leading words is the spot of the polynomials that they lead
-pub spot-of-leads : (ps : List Poly) → All (λ f. f ≢ []) ps → (w : Word) → spotOfWords (map lead ps) w ≡ spot ps w
-unfolding spotOfWords spot
-spot-of-leads ps h w = from-of-leads ps h w 0

@@ -1,0 +1,71 @@
+// A polynomial of the package by its number, added to the formula.
+
+use crate::multiple::add_multiple;
+ghost use mathlib.Core.Path.{_≡_};
+ghost use Prim.Native.Nat.{_+_, _≤_, _<_};
+ghost use lib.ListN.{length};
+ghost use Rattle.field.specs.Field.{Field, fieldOf};
+ghost use Rattle.words.specs.Order.{wordOrder};
+ghost use Rattle.algebra.specs.Poly.{scale, shift};
+ghost use Rattle.algebra.specs.Ideal.{family};
+ghost use Rattle.algebra.specs.Written.{plus};
+ghost use Rattle.working.specs.Working.{formula, Working};
+ghost use Rattle.working.specs.Family.{familyAt, Terms, Runs};
+
+// Adds x × left × polynomial × right, where the polynomial is number `of`, counted from 1, of count polynomials that lie one after the other:
+// number 1 starts where entry base of firsts says, and m terms are well formed.
+pub fn add_numbered(
+    p: u32,
+    x: u32,
+    left: &[u8],
+    of: usize,
+    right: &[u8],
+    coefs: &[u32],
+    starts: &[usize],
+    lens: &[usize],
+    bytes: &[u8],
+    firsts: &[usize],
+    base: usize,
+    count: usize,
+    m: usize,
+    c: &mut [u32],
+    l: &mut [usize],
+    w: &mut [u8],
+    o: &mut [usize],
+    n: usize,
+    buf: &mut [u8],
+) -> usize
+    requires { ⌜ (p ≤ 65536) × (x < p) × Field (fieldOf p) ⌝ }
+    requires { ⌜ (1 ≤ of) × (of ≤ count) × (length (now left) ≤ 24) × (length (now right) ≤ 24) ⌝ }
+    requires { ⌜ Terms p (now coefs) (now starts) (now lens) (now bytes) m ⌝ }
+    requires { ⌜ Runs (now firsts) base count m ⌝ }
+    requires { ⌜ Working p (now c) (now l) (now w) (now o) n ⌝ }
+    requires { ⌜ (n + 48 ≤ length (now o)) × (72 ≤ length (now buf)) ⌝ }
+    ensures { λ r. ⌜ r ≤ n + 48 ⌝ }
+    ensures { λ r. ⌜ Working p (now (c .exit)) (now (l .exit)) (now (w .exit)) (now (o .exit)) r ⌝ }
+    ensures { λ r. ⌜
+        formula (now (c .exit)) (now (l .exit)) (now (w .exit)) (now (o .exit)) r
+        ≡ plus (fieldOf p) wordOrder (formula (now (c .entry)) (now (l .entry)) (now (w .entry)) (now (o .entry)) n)
+        (scale (fieldOf p) x (shift (now (left .entry)) (now (right .entry)) (family (familyAt (now (coefs .entry)) (now (starts .entry)) (now (lens .entry)) (now (bytes .entry)) (now (firsts .entry)) base count) of)))
+        ⌝ }
+{
+    let g = of - 1;
+    let a = firsts[base + g];
+    let b = firsts[base + g + 1];
+    add_multiple(
+        p,
+        x,
+        left,
+        &coefs[a..b],
+        &starts[a..b],
+        &lens[a..b],
+        bytes,
+        right,
+        c,
+        l,
+        w,
+        o,
+        n,
+        buf,
+    )
+}
