@@ -5,17 +5,20 @@ use Prim.Native.Nat.{ℕ, zero, suc}
 use lib.Dec.{eqb}
 use Rattle.algebra.specs.Poly.{Poly}
 use Rattle.algebra.specs.Ideal.{Line}
+use Rattle.package.specs.Items.{itemTerms}
 use Rattle.package.specs.Terms.{TermLine}
 use Rattle.package.specs.Sums.{SumLine}
 use Rattle.package.specs.Package.{Package}
 
+-- What term lines say, as a polynomial.
+unfoldable pub termsOf : List TermLine → Poly
+termsOf [] = []
+termsOf (t ∷ ts) = record { coef = t .coef; word = t .word } ∷ termsOf ts
+
 -- The polynomial of an item of a kind: its terms, in order. An item without lines is zero.
 unfoldable pub polynomial : ℕ → ℕ → List TermLine → Poly
-polynomial k i [] = []
-polynomial k i (t ∷ ts) = elim (eqb (t .kind) k) [
-  | false ↦ polynomial k i ts
-  | true ↦ elim (eqb (t .item) i) [ false ↦ polynomial k i ts | true ↦ record { coef = t .coef; word = t .word } ∷ polynomial k i ts ]
-]
+unfolding termsOf itemTerms
+polynomial k i ts = termsOf (itemTerms k i ts)
 
 -- The polynomials of items i, i + 1, ..: n of them.
 unfoldable pub polynomials : ℕ → List TermLine → ℕ → ℕ → List Poly

@@ -9,7 +9,8 @@ use native.Mathlib.Omega.{arith}
 use native.Mathlib.Decide.{ℕ-discrete}
 use lib.ListN.{length, getD, drop, set, length-append, drop-of-length-le}
 use lib.Seq.{drop-cons, getD-set-same, getD-set-other}
-use Rattle.package.specs.Formula.{Term, wrongAt, formula, noRow, row, judgeRow, ended, rows, formulaLines, readFormula}
+use Rattle.algebra.specs.Poly.{Term}
+use Rattle.package.specs.Formula.{wrongAt, formula, noRow, row, judgeRow, ended, rows, formulaLines, readFormula}
 use Rattle.package.specs.Held.{Inside, rowsHeld}
 use Rattle.package.specs.Names.{formulaNames}
 use Rattle.package.specs.declared.Limits.{Limits}

@@ -9,3 +9,13 @@ pub mod Joining
 pub mod FormulaLines
 pub mod FormulaTurns
 pub mod ItemStarts
+pub mod TermTexts
+pub mod TermBlockTexts
+pub mod SumTexts
+pub mod SumBlockTexts
+pub mod LineBounds
+pub mod WrittenBlocks
+pub mod CountsTexts
+pub mod PackageTexts
+pub mod ItemRuns
+pub mod ReadingFacts

@@ -30,7 +30,7 @@ module _ (h : Head) (lim : Limits) (a : LineAbove) (n k i c : ℕ) (w : List ℕ
     judge-6 q = rw (judged, p, q)
 
     module _ (q : follows a k i w ≡ true) where
-      by-room : (t : Bool) → hasRoom lim a n k i ≡ t → _≡_ {A = TermVerdict} (elim t [ false ↦ refuse 7 | true ↦ accept k i c w ]) (judged h lim a n (term k i c w))
+      pub by-room : (t : Bool) → hasRoom lim a n k i ≡ t → _≡_ {A = TermVerdict} (elim t [ false ↦ refuse 7 | true ↦ accept k i c w ]) (judged h lim a n (term k i c w))
       unfolding judged
       by-room t r = rw (judged, p, q, r)
 

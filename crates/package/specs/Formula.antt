@@ -4,6 +4,7 @@ use mathlib.Core.List.{List, [], _∷_, _++_}
 use Prim.Native.Nat.{ℕ, suc}
 use lib.Dec.{ltb, eqb}
 use lib.ListN.{length}
+use Rattle.algebra.specs.Poly.{Term}
 use Rattle.package.specs.Bounds.{coefFits, wordFits, isBelow}
 use Rattle.package.specs.Names.{formulaNames}
 use Rattle.package.specs.declared.Limits.{Limits}
@@ -12,11 +13,6 @@ use Rattle.text.specs.Field.{none, some, numThen, wordLast}
 use Rattle.text.specs.Number.{number}
 use Rattle.text.specs.Pieces.{Pieces, final, piece, pieces, lines, fields}
 use Rattle.text.specs.Word.{noWord, word}
-
--- A term: a coefficient and a word.
-pub record Term : Type 0 where
-  pub coef : ℕ
-  pub word : List ℕ
 
 -- What a formula is read as: refused at a line, or its terms, greatest word first.
 pub data FormulaOutcome : Type 0 where

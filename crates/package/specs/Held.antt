@@ -3,7 +3,8 @@ use mathlib.Core.Path.{_≡_}
 use mathlib.Core.List.{List, [], _∷_, _++_}
 use Prim.Native.Nat.{ℕ, zero, suc, _+_, _≤_, _<_}
 use lib.ListN.{length, getD, drop}
-use Rattle.package.specs.Formula.{Term, FormulaOutcome, wrongAt, formula, TermRow, noRow, row}
+use Rattle.algebra.specs.Poly.{Term}
+use Rattle.package.specs.Formula.{FormulaOutcome, wrongAt, formula, TermRow, noRow, row}
 use Rattle.package.specs.Head.{HeadForm, noHead, head}
 use Rattle.package.specs.Items.{slot, firstOf}
 use Rattle.package.specs.Package.{Outcome, refused, read}

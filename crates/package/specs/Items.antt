@@ -1,8 +1,9 @@
 -- Where the terms of an item start: items are numbered G 1 to gens, then B 1 to basis.
 use mathlib.Core.Bool.{true, false}
 use mathlib.Core.List.{List, [], _∷_}
-use Prim.Native.Nat.{ℕ, suc, _+_}
+use Prim.Native.Nat.{ℕ, suc, _+_, _-_}
 use lib.Dec.{ltb, eqb}
+use lib.ListN.{take, drop}
 use Rattle.package.specs.Terms.{TermLine}
 use Rattle.package.specs.declared.Head.{Head}
 
@@ -20,3 +21,15 @@ slotsOf h (t ∷ ts) = slot h (t .kind) (t .item) ∷ slotsOf h ts
 unfoldable pub firstOf : ℕ → List ℕ → ℕ
 firstOf j [] = 0
 firstOf j (x ∷ xs) = elim (ltb x j) [ true ↦ suc (firstOf j xs) | false ↦ 0 ]
+
+-- The terms from where item number j starts to where the next one starts.
+abbrev pub itemRun : Head → ℕ → List TermLine → List TermLine
+itemRun h j ts = take (firstOf (suc j) (slotsOf h ts) - firstOf j (slotsOf h ts)) (drop (firstOf j (slotsOf h ts)) ts)
+
+-- The terms of an item: those of its kind and number, in their order.
+unfoldable pub itemTerms : ℕ → ℕ → List TermLine → List TermLine
+itemTerms k i [] = []
+itemTerms k i (t ∷ ts) = elim (eqb (t .kind) k) [
+  | true ↦ elim (eqb (t .item) i) [ true ↦ t ∷ itemTerms k i ts | false ↦ itemTerms k i ts ]
+  | false ↦ itemTerms k i ts
+]

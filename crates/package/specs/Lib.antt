@@ -6,5 +6,7 @@ pub mod Items
 pub mod Sums
 pub mod Package
 pub mod Formula
+pub mod Writing
+pub mod Readable
 pub mod Held
 pub mod Examples

@@ -1,13 +1,14 @@
 -- Tests of bytes, turn by turn: what looking at one byte more does to what is left of a list.
-use mathlib.Core.Path.{_≡_, refl, ap}
+use mathlib.Core.Path.{_≡_, refl, ap, ap₂}
 use mathlib.Core.Bool.{Bool, true, false, false≢true}
 use mathlib.Core.List.{List, [], _∷_}
 use Prim.Native.Nat.{ℕ, suc, _+_, _≤_, _<_}
 use native.Mathlib.Numerals.{add-one}
+use native.Mathlib.Omega.{arith}
 use lib.Dec.{ltb, eqb}
 use lib.ListN.{length, getD, drop, drop-of-length-le}
 use lib.Seq.{drop-cons}
-use borrow.Author.Tests.{lt-ltb, le-ltb, eq-eqb, ne-eqb, ltb-false}
+use borrow.Author.Tests.{lt-ltb, le-ltb, eq-eqb, ne-eqb, ltb-false, eqb-true}
 use Rattle.text.specs.Bytes.{same, within, allWithin}
 use Rattle.text.specs.Field.{rankFrom, rank}
 use Rattle.text.specs.declared.Num.the-variants.{Wrong, Value}
@@ -103,3 +104,29 @@ rank-one ks f e = rw (rank, eq-eqb (length f) 1 e)
 pub rank-many : (ks f : List ℕ) → (length f ≡ 1 → ⊥) → rank ks f ≡ Wrong
 unfolding rank
 rank-many ks f n = rw (rank, ne-eqb (length f) 1 n)
+
+-- Lists that hold the same bytes are equal.
+pub same-equal : (a b : List ℕ) → same a b ≡ true → a ≡ b
+unfolding same
+same-equal [] [] h = refl
+same-equal [] (y ∷ b) h = absurd (false≢true h)
+same-equal (x ∷ a) [] h = absurd (false≢true h)
+same-equal (x ∷ a) (y ∷ b) h = go (eqb x y) refl h (same-equal a b)
+  where
+    go : (t : Bool) → eqb x y ≡ t → _≡_ {A = Bool} (elim t [ true ↦ same a b | false ↦ false ]) true → (same a b ≡ true → a ≡ b) → x ∷ a ≡ y ∷ b
+    go true e q ih = ap₂ _∷_ (eqb-true x y e) (ih q)
+    go false e q ih = absurd (false≢true q)
+
+pub same-self : (a : List ℕ) → same a a ≡ true
+unfolding same
+same-self [] = refl
+same-self (x ∷ a) = rw (same, eq-eqb x x refl) (same-self a)
+
+-- Wider bounds hold too.
+pub all-wider : (lo hi hi′ : ℕ) (w : List ℕ) → hi ≤ hi′ → allWithin lo hi w ≡ true → allWithin lo hi′ w ≡ true
+unfolding allWithin
+all-wider lo hi hi′ [] l h = refl
+all-wider lo hi hi′ (x ∷ w) l h =
+    let a = all-cons lo hi x w h in
+    let b = within-bounds lo hi x (a .0) in
+    rw (allWithin, within-in lo hi′ x (b .0) (omega arith)) (all-wider lo hi hi′ w l (a .1))

@@ -7,3 +7,4 @@ pub mod Stores
 pub mod NumberTexts
 pub mod WordTexts
 pub mod PieceTexts
+pub mod FieldTexts

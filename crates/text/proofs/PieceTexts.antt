@@ -5,7 +5,7 @@ use mathlib.Core.List.{List, [], _∷_, _++_}
 use Prim.Native.Nat.{ℕ}
 use lib.Dec.{eqb}
 use borrow.Author.Tests.{eq-eqb, ne-eqb, eqb-true, eqb-false}
-use Rattle.text.specs.Pieces.{Pieces, final, piece, onto, pieces, lines, fields, joined, writeFields, writeLines, Without, empty, more, Clear, clear, clears}
+use Rattle.text.specs.Pieces.{Pieces, final, piece, onto, pieces, lines, fields, joined, writeFields, writeLines, Without, empty, apart, Clear, clear, clears}
 
 -- A text is its pieces put together.
 pub joined-pieces : (b : ℕ) (l : List ℕ) → joined b (pieces b l) ≡ l
@@ -30,8 +30,8 @@ clear-pieces b [] = clear empty
 clear-pieces b (x ∷ l) = go (eqb x b) refl (clear-pieces b l)
   where
     put-on : (x ≡ b → ⊥) → {ps : Pieces} → Clear b ps → Clear b (onto x ps)
-    put-on n (clear w) = clear (more n w)
-    put-on n (clears w r) = clears (more n w) r
+    put-on n (clear w) = clear (apart n w)
+    put-on n (clears w r) = clears (apart n w) r
 
     go : (t : Bool) → eqb x b ≡ t → Clear b (pieces b l) → Clear b (pieces b (x ∷ l))
     go true e r = rw (pieces, e) (clears empty r)
@@ -42,12 +42,12 @@ module _ (b : ℕ) where
   pub pieces-last : {l : List ℕ} → Without b l → pieces b l ≡ final l
   unfolding pieces onto
   pieces-last empty = refl
-  pieces-last (more {x} {xs} n w) = rw (pieces, ne-eqb x b n, pieces-last w)
+  pieces-last (apart {x} {xs} n w) = rw (pieces, ne-eqb x b n, pieces-last w)
 
   pub pieces-first : {l : List ℕ} → Without b l → (m : List ℕ) → pieces b (l ++ (b ∷ m)) ≡ piece l (pieces b m)
   unfolding pieces onto
   pieces-first empty m = rw (pieces, eq-eqb b b refl)
-  pieces-first (more {x} {xs} n w) m = rw (pieces, ne-eqb x b n, pieces-first w m)
+  pieces-first (apart {x} {xs} n w) m = rw (pieces, ne-eqb x b n, pieces-first w m)
 
   -- Pieces without b are what their text is cut into.
   pub pieces-joined : {ps : Pieces} → Clear b ps → pieces b (joined b ps) ≡ ps
@@ -69,9 +69,9 @@ lines-written c = pieces-joined 10 c
 -- A byte that is in no piece, and is not the byte between them, is not in their text.
 pub without-append : {x : ℕ} {l m : List ℕ} → Without x l → Without x m → Without x (l ++ m)
 without-append empty v = v
-without-append (more n w) v = more n (without-append w v)
+without-append (apart n w) v = apart n (without-append w v)
 
 pub without-joined : {x b : ℕ} {ps : Pieces} → (b ≡ x → ⊥) → Clear x ps → Without x (joined b ps)
 unfolding joined
 without-joined n (clear w) = w
-without-joined n (clears w r) = without-append w (more n (without-joined n r))
+without-joined n (clears w r) = without-append w (apart n (without-joined n r))

@@ -1,14 +1,14 @@
 -- Reading a line field by field: what a field says, and the fields behind it.
 use mathlib.Core.Bool.{true, false}
 use mathlib.Core.List.{List, [], _∷_}
-use Prim.Native.Nat.{ℕ, suc}
+use Prim.Native.Nat.{ℕ, suc, _-_}
 use lib.Dec.{eqb}
 use lib.ListN.{length, getD}
+use Rattle.text.specs.Number.{number}
+use Rattle.text.specs.Pieces.{Pieces, final, piece}
+use Rattle.text.specs.Word.{WordField, noWord, word, wordOf}
 use Rattle.text.specs.declared.Num.{Num}
 use Rattle.text.specs.declared.Num.the-variants.{Wrong, Value}
-use Rattle.text.specs.Pieces.{Pieces, final, piece}
-use Rattle.text.specs.Number.{number}
-use Rattle.text.specs.Word.{WordField, noWord, word, wordOf}
 
 -- A number and the fields behind it.
 pub data Got : Type 0 where
@@ -61,3 +61,7 @@ rankFrom n (k ∷ ks) b = elim (eqb k b) [ true ↦ Value n | false ↦ rankFrom
 unfoldable pub rank : List ℕ → List ℕ → Num
 unfolding rankFrom
 rank ks f = elim (eqb (length f) 1) [ true ↦ rankFrom 1 ks (getD f 0 0) | false ↦ Wrong ]
+
+-- A kind as it is written, by its rank.
+unfoldable pub writeKind : List ℕ → ℕ → List ℕ
+writeKind ks k = getD ks (k - 1) 0 ∷ []

@@ -44,7 +44,7 @@ writeLines ls = joined 10 ls
 -- The byte b is not in a list of bytes.
 pub data Without (b : ℕ) : List ℕ → Type 0 where
   empty : Without b []
-  more : {x : ℕ} {xs : List ℕ} → (x ≡ b → ⊥) → Without b xs → Without b (x ∷ xs)
+  apart : {x : ℕ} {xs : List ℕ} → (x ≡ b → ⊥) → Without b xs → Without b (x ∷ xs)
 
 -- The byte b is in none of the pieces.
 pub data Clear (b : ℕ) : Pieces → Type 0 where
