@@ -2,3 +2,7 @@
 pub mod Remaining
 pub mod AcceptedIff
 pub mod Accepted
+pub mod LineFacts
+pub mod ReadableContent
+pub mod Packages
+pub mod SlicesContent

@@ -7,6 +7,7 @@ use native.Mathlib.Omega.{arith}
 use lib.ListN.{length, getD, take, drop}
 use Rattle.field.specs.Field.{Operations, Field, fieldOf}
 use Rattle.words.specs.Word.{Word, around}
+use Rattle.words.specs.Laid.{laidWord}
 use Rattle.words.specs.Order.{Order, wordOrder}
 use Rattle.words.proofs.WordOrder.{word-order-admissible}
 use Rattle.algebra.specs.Poly.{Term, Poly, scale, shift}
@@ -61,7 +62,7 @@ module _ (K : Operations) (x : ℕ) (left right : Word) (gc gs gl bytes : List �
 
   -- the first of them, with the coefficient y and the word in the first e letters of b
   pub rest-next : (j y e : ℕ) (b : List ℕ) → j < length gc → y ≡ K .mul x (getD gc j 0)
-      → take e b ≡ around left right (take (getD gl j 0) (drop (getD gs j 0) bytes))
+      → take e b ≡ around left right (laidWord gs gl bytes j)
       → rest j ≡ single y (take (e - 0) (drop 0 b)) ∷ rest (j + 1)
   rest-next j y e b h d k =
       let s : e - 0 ≡ e = omega arith in

@@ -15,7 +15,7 @@ use Rattle.working.specs.Family.{between, polyBetween, familyAt, Terms, 
 pub between-length : (xs : List ℕ) (a b : ℕ) → a ≤ b → b ≤ length xs → length (between xs a b) ≡ b - a
 between-length xs a b h k = simp (length-take, length-drop) (omega arith)
 
-between-at : (xs : List ℕ) (a b i : ℕ) → i < b - a → getD (between xs a b) i 0 ≡ getD xs (a + i) 0
+pub between-at : (xs : List ℕ) (a b i : ℕ) → i < b - a → getD (between xs a b) i 0 ≡ getD xs (a + i) 0
 between-at xs a b i h = getD-take (b - a) (drop a xs) i 0 h ∙ getD-drop a xs i 0
 
 module _ {p : ℕ} {coefs starts lens bytes : List ℕ} {m : ℕ} (h : Terms p coefs starts lens bytes m) where

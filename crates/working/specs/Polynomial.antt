@@ -2,19 +2,21 @@
 use mathlib.Core.Path.{_≡_}
 use mathlib.Core.List.{List}
 use Prim.Native.Nat.{ℕ, _+_, _≤_, _<_}
-use lib.ListN.{length, getD, take, drop}
+use lib.ListN.{length, getD}
+use Rattle.words.specs.Laid.{laidWord}
 use Rattle.algebra.specs.Poly.{Term, Poly}
 use Rattle.working.specs.Working.{terms}
 
 -- Term i: coefficient gc[i], and the gl[i] bytes from gs[i] on.
 abbrev pub polyTerm : List ℕ → List ℕ → List ℕ → List ℕ → ℕ → Term
-polyTerm gc gs gl bytes i = record { coef = getD gc i 0; word = take (getD gl i 0) (drop (getD gs i 0) bytes) }
+polyTerm gc gs gl bytes i = record { coef = getD gc i 0; word = laidWord gs gl bytes i }
 
 -- The polynomial.
 abbrev pub polyAt : List ℕ → List ℕ → List ℕ → List ℕ → Poly
 polyAt gc gs gl bytes = terms (polyTerm gc gs gl bytes) 0 (length gc)
 
--- Its slices are equally long, its coefficients are elements, its words lie within the bytes, and each of them with `more` further letters fits a place.
+-- Its slices are equally long, its coefficients are elements, its words lie within the bytes,
+-- and each of them with `more` further letters fits a place.
 pub record Given (p : ℕ) (gc gs gl bytes : List ℕ) (more : ℕ) : Type 0 where
   pub starts : length gs ≡ length gc
   pub lens : length gl ≡ length gc

@@ -12,7 +12,8 @@ use Rattle.working.proofs.letters.copy_to.Statement.{statement}
 use Rattle.working.proofs.letters.copy_to.Tie as tie
 
 -- a turn stores the first of the letters that are left
-store-next : (dst src : List ℕ) (at i : ℕ) → i < length src → sets (set dst (at + i) (getD src i 0)) (at + (i + 1)) (drop (i + 1) src) ≡ sets dst (at + i) (drop i src)
+store-next : (dst src : List ℕ) (at i : ℕ) → i < length src
+    → sets (set dst (at + i) (getD src i 0)) (at + (i + 1)) (drop (i + 1) src) ≡ sets dst (at + i) (drop i src)
 store-next dst src at i h = let e : at + (i + 1) ≡ suc (at + i) = omega arith in rw (drop-cons src i 0, e, add-one i)
 
 store-end : (dst src : List ℕ) (at i : ℕ) → length src ≤ i → sets dst (at + i) (drop i src) ≡ dst

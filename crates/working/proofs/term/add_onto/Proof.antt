@@ -47,7 +47,12 @@ returns c =
     let s = t .before in
     let z = s .before .before .before .before .before .before .before in
     let moved = r .rotate-left .ensures in
-    (search needs, (holds-dropped (z .pre .0 .2) _ _ _ _ _ _ (z .args .x) _ (z .pre .1 .1 .holds) (z .pre .1 .0) (s .add .ensures .0) _ moved, formula-dropped (z .pre .0 .2) _ _ _ _ _ _ (z .args .x) _ (z .pre .1 .1 .holds) (z .pre .1 .0) (s .add .ensures .0) _ moved (t .if1 .taken)))
+    let laws = z .pre .0 .2 in
+    let low = z .pre .1 .0 in
+    let f = z .pre .1 .1 .holds in
+    let sum = s .add .ensures .0 in
+    let x = z .args .x in
+    (search needs, (holds-dropped laws _ _ _ _ _ _ x _ f low sum _ moved, formula-dropped laws _ _ _ _ _ _ x _ f low sum _ moved (t .if1 .taken)))
 
 mul-c : tie.Need-mul-c
 mul-c c =
@@ -68,7 +73,12 @@ returns-2 : tie.Need-returns-2
 returns-2 c =
     let s = c .before in
     let z = s .before .before .before .before .before .before .before in
-    (search needs, (holds-summed (z .pre .0 .2) _ _ _ _ _ _ (z .args .x) _ (z .pre .1 .1 .holds) (z .pre .1 .0) (s .add .ensures .0), formula-summed (z .pre .0 .2) _ _ _ _ _ _ (z .args .x) _ (z .pre .1 .1 .holds) (z .pre .1 .0) (s .add .ensures .0) (c .if1 .left)))
+    let laws = z .pre .0 .2 in
+    let low = z .pre .1 .0 in
+    let f = z .pre .1 .1 .holds in
+    let sum = s .add .ensures .0 in
+    let x = z .args .x in
+    (search needs, (holds-summed laws _ _ _ _ _ _ x _ f low sum, formula-summed laws _ _ _ _ _ _ x _ f low sum (c .if1 .left)))
 
 pub add-onto-spec : {M : Type 1} → statement M
 add-onto-spec =

@@ -55,7 +55,8 @@ returns-2 c =
     let t = c .before in
     let f = t .before in
     let z = f .before .before .before .before .before .before .before .before .before in
-    (omega arith, (z .pre .1 .1 .holds, added-zero (z .args .p) (z .args .c .now) _ _ _ _ _ (z .args .x) _ (f .find .ensures) (z .pre .0 .2) (z .pre .0 .1) (t .if1 .left) (c .if2 .taken) refl))
+    let added = added-zero (z .args .p) (z .args .c .now) _ _ _ _ _ (z .args .x) _ (f .find .ensures) in
+    (omega arith, (z .pre .1 .1 .holds, added (z .pre .0 .2) (z .pre .0 .1) (t .if1 .left) (c .if2 .taken) refl))
 
 put-before-requires : tie.Need-put-before-requires
 put-before-requires c κs =
@@ -65,7 +66,9 @@ put-before-requires c κs =
 
 add-result : tie.Need-add-result
 add-result c =
-    let z = c .before .before .before .before .before .before .before .before .before .before .before .before .before .before .before .before .before .before .before .before .before .before .before .before in
+    let s = c .before .before .before .before .before .before .before .before in
+    let f = s .before .before .before .before .before .before .before in
+    let z = f .before .before .before .before .before .before .before .before .before in
     let q = z .pre .1 .0 .1 in
     let g = z .good in
     record { fits = omega arith }
