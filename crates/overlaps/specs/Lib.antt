@@ -1,2 +1,3 @@
 pub mod Overlaps
 pub mod Position
+pub mod Listing

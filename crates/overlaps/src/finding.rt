@@ -7,7 +7,7 @@ ghost use mathlib.Core.Path.{_≡_};
 ghost use Prim.Native.Nat.{ℕ, _+_, _*_, _≤_, _<_};
 ghost use lib.ListN.{length, getD};
 ghost use Rattle.words.specs.Laid.{laidWord, laidWords, Laid};
-ghost use Rattle.overlaps.specs.Position.{sharedBy, overlapsAt, seenNext, pairAfter, Placed, Short, Ahead};
+ghost use Rattle.overlaps.specs.Position.{sharedBy, overlapsAt, seenNext, behind, pairAfter, Placed, Short, Ahead};
 
 // The pair of leading words behind a pair.
 fn next_pair(c: Cursor, n: usize) -> Cursor
@@ -65,4 +65,16 @@ pub fn next_overlap(starts: &[usize], lens: &[usize], bytes: &[u8], n: usize, fr
         c = next_pair(c, n);
     }
     Next::Done
+}
+
+// The place behind an overlap.
+pub fn place_behind(c: Cursor) -> Cursor
+    requires { ⌜ c .shared ≤ 24 ⌝ }
+    ensures { λ r. ⌜ r ≡ behind c ⌝ }
+{
+    Cursor {
+        first: c.first,
+        second: c.second,
+        shared: c.shared + 1,
+    }
 }

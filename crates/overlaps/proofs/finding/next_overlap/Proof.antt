@@ -5,10 +5,6 @@ use Rattle.overlaps.proofs.Searching.{Searching, searching-start, both-
 use borrow.Author.Needs.{needs}
 use Rattle.overlaps.proofs.finding.next_overlap.Statement.{statement}
 use Rattle.overlaps.proofs.finding.next_overlap.Tie as tie
-use Rattle.overlaps.proofs.finding.next_overlap.Reads as reads
-use Rattle.overlaps.proofs.finding.next_overlap.Lts as lts
-use Rattle.overlaps.proofs.finding.next_pair.Reads as next-pair-reads
-use Rattle.overlaps.proofs.finding.shared_at.Reads as shared-at-reads
 
 abbrev Inv-loop : tie.InvT-loop
 Inv-loop starts lens bytes n c₀ c = Searching starts lens bytes n c₀ c
@@ -16,23 +12,19 @@ Inv-loop starts lens bytes n c₀ c = Searching starts lens bytes n c₀ c
 abbrev μ-loop : tie.MeasureT-loop
 μ-loop starts lens bytes n c₀ c = 4096 - (c .first * 64 + c .second)
 
--- src/finding.rt:48:5
 loop-holds : tie.Need-loop-holds Inv-loop μ-loop
 loop-holds c =
     let s = c .before .before .before in
     searching-start _ _ _ _ _ (s .pre .0) (s .pre .1 .0) (s .pre .1 .1) (s .pre .1 .2)
 
--- src/finding.rt:49:13
 shared-at-requires : tie.Need-shared-at-requires Inv-loop μ-loop
 shared-at-requires c κs =
     let l = c .before .before in
     (l .loop .inv .laid, both-in _ _ _ _ _ _ (l .loop .inv) (c .if1 .taken))
 
--- src/finding.rt:50:33
 enum-known-found : tie.Need-enum-known-found Inv-loop μ-loop
 enum-known-found c = search needs
 
--- src/finding.rt:51:13
 returns : tie.Need-returns Inv-loop μ-loop
 returns c =
     let t = c .before .before .before in
@@ -42,7 +34,6 @@ returns c =
 enum-told : tie.Need-enum-told Inv-loop μ-loop
 enum-told c = search needs
 
--- src/finding.rt:57:9
 next-pair-requires : tie.Need-next-pair-requires Inv-loop μ-loop
 next-pair-requires c κs =
     let t = c .before .before .before in
@@ -50,14 +41,12 @@ next-pair-requires c κs =
     let b = both-in _ _ _ _ _ _ (l .loop .inv) (t .if1 .taken) in
     (b .1, b .0)
 
--- src/finding.rt:48:5
 loop-less : tie.Need-loop-less Inv-loop μ-loop
 loop-less c =
     let t = c .before .before .before .before in
     let l = t .before .before in
     rw (c .next-pair .ensures) (pair-falls _ _ _ _ _ (l .loop .c) (l .loop .inv) (t .if1 .taken))
 
--- src/finding.rt:48:5
 loop-again : tie.Need-loop-again Inv-loop μ-loop
 loop-again c =
     let t = c .before .before .before in
@@ -65,7 +54,6 @@ loop-again c =
     rw (c .next-pair .ensures)
     (searching-next _ _ _ _ _ (l .loop .c) (l .loop .inv) (t .before .if1 .taken) (sym (t .shared-at .ensures) ∙ c .before .enum-told .given .1))
 
--- src/finding.rt:41:1
 returns-2 : tie.Need-returns-2 Inv-loop μ-loop
 returns-2 c =
     let l = c .before .before in

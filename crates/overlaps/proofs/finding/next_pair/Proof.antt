@@ -3,22 +3,16 @@ use Rattle.overlaps.proofs.Positions.{after-same, after-next}
 use borrow.Author.Needs.{needs}
 use Rattle.overlaps.proofs.finding.next_pair.Statement.{statement}
 use Rattle.overlaps.proofs.finding.next_pair.Tie as tie
-use Rattle.overlaps.proofs.finding.next_pair.Reads as reads
-use Rattle.overlaps.proofs.finding.next_pair.Lts as lts
 
--- src/finding.rt:18:18
 add-second : tie.Need-add-second
 add-second c = search needs
 
--- src/finding.rt:20:9
 returns : tie.Need-returns
 returns c = after-same (c .before .before .args .c) _ (c .if1 .taken)
 
--- src/finding.rt:22:21
 add-t6 : tie.Need-add-t6
 add-t6 c = search needs
 
--- src/finding.rt:13:1
 returns-2 : tie.Need-returns-2
 returns-2 c = after-next (c .before .before .args .c) _ (c .if1 .left)
 

@@ -4,79 +4,58 @@ use Rattle.overlaps.proofs.Positions.{part-end}
 use borrow.Author.Needs.{needs}
 use Rattle.overlaps.proofs.finding.shared_at.Statement.{statement}
 use Rattle.overlaps.proofs.finding.shared_at.Tie as tie
-use Rattle.overlaps.proofs.finding.shared_at.Reads as reads
-use Rattle.overlaps.proofs.finding.shared_at.Lts as lts
-use Rattle.overlaps.proofs.shared.next_shared.Reads as next-shared-reads
 
--- src/finding.rt:33:13
 mul-a : tie.Need-mul-a
 mul-a c = search needs
 
--- src/finding.rt:33:13
 shared-slice-read-a : tie.Need-shared-slice-read-a
 shared-slice-read-a c = search needs
 
--- src/finding.rt:34:13
 mul-b : tie.Need-mul-b
 mul-b c = search needs
 
--- src/finding.rt:34:13
 shared-slice-read-b : tie.Need-shared-slice-read-b
 shared-slice-read-b c = search needs
 
--- src/finding.rt:35:17
 mul-e : tie.Need-mul-e
 mul-e c = search needs
 
--- src/finding.rt:35:17
 shared-slice-read-e : tie.Need-shared-slice-read-e
 shared-slice-read-e c = search needs
 
--- src/finding.rt:35:13
 add-e : tie.Need-add-e
 add-e c = let s = c .before .before .before .before .before .before in omega (arith, s .pre .0 .inside (s .args .c .first) (s .pre .1 .0))
 
--- src/finding.rt:36:17
 mul-f : tie.Need-mul-f
 mul-f c = search needs
 
--- src/finding.rt:36:17
 shared-slice-read-f : tie.Need-shared-slice-read-f
 shared-slice-read-f c = search needs
 
--- src/finding.rt:36:13
 add-f : tie.Need-add-f
 add-f c = let s = c .before .before .before .before .before .before .before in omega (arith, s .pre .0 .inside (s .args .c .second) (s .pre .1 .1))
 
--- src/finding.rt:37:17
 sub-next-shared : tie.Need-sub-next-shared
 sub-next-shared c = search needs
 
--- src/finding.rt:37:17
 part-next-shared-start : tie.Need-part-next-shared-start
 part-next-shared-start c = search needs
 
--- src/finding.rt:37:17
 part-next-shared-end : tie.Need-part-next-shared-end
 part-next-shared-end c = let s = c .before .before .before .before .before .before .before in omega (arith, s .pre .0 .inside (s .args .c .first) (s .pre .1 .0))
 
--- src/finding.rt:37:31
 sub-next-shared-2 : tie.Need-sub-next-shared-2
 sub-next-shared-2 c = search needs
 
--- src/finding.rt:37:31
 part-next-shared-start-2 : tie.Need-part-next-shared-start-2
 part-next-shared-start-2 c = search needs
 
--- src/finding.rt:37:31
 part-next-shared-end-2 : tie.Need-part-next-shared-end-2
 part-next-shared-end-2 c = let s = c .before .before .before .before .before .before .before .before in omega (arith, s .pre .0 .inside (s .args .c .second) (s .pre .1 .1))
 
--- src/finding.rt:37:5
 next-shared-requires : tie.Need-next-shared-requires
 next-shared-requires c κs = search needs
 
--- src/finding.rt:26:1
 returns : tie.Need-returns
 returns c = simp part-end at (c .next-shared .ensures)
 

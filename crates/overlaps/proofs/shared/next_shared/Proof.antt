@@ -8,10 +8,6 @@ use Rattle.overlaps.proofs.Positions.{shared-here, shared-later, shared
 use borrow.Author.Needs.{needs}
 use Rattle.overlaps.proofs.shared.next_shared.Statement.{statement}
 use Rattle.overlaps.proofs.shared.next_shared.Tie as tie
-use Rattle.overlaps.proofs.shared.next_shared.Reads as reads
-use Rattle.overlaps.proofs.shared.next_shared.Lts as lts
-use Rattle.overlaps.proofs.shared.is_shared.Reads as is-shared-reads
-use Rattle.overlaps.proofs.shared.lesser.Reads as lesser-reads
 
 abbrev Inv-loop : tie.InvT-loop
 Inv-loop u v s most n₀ n =
@@ -21,40 +17,32 @@ Inv-loop u v s most n₀ n =
 abbrev μ-loop : tie.MeasureT-loop
 μ-loop u v s most n₀ n = most - n
 
--- src/shared.rt:32:9
 lesser-requires : tie.Need-lesser-requires Inv-loop μ-loop
 lesser-requires c κs = search needs
 
--- src/shared.rt:34:5
 loop-holds : tie.Need-loop-holds Inv-loop μ-loop
 loop-holds c = search needs
 
--- src/shared.rt:35:12
 is-shared-requires : tie.Need-is-shared-requires Inv-loop μ-loop
 is-shared-requires c κs = search needs
 
--- src/shared.rt:36:13
 returns : tie.Need-returns Inv-loop μ-loop
 returns c =
     let l = c .before .before .before in
     sym (sym (l .loop .inv .1)
     ∙ shared-here _ _ _ (l .loop .n) (omega arith) (sym (c .before .is-shared .ensures) ∙ c .if1 .taken))
 
--- src/shared.rt:38:9
 add-n : tie.Need-add-n Inv-loop μ-loop
 add-n c = search needs
 
--- src/shared.rt:34:5
 loop-less : tie.Need-loop-less Inv-loop μ-loop
 loop-less c = search needs
 
--- src/shared.rt:34:5
 loop-again : tie.Need-loop-again Inv-loop μ-loop
 loop-again c =
     let l = c .before .before .before in
     (l .loop .inv .0, shared-later _ _ _ (l .loop .n) (omega arith) (sym (c .before .is-shared .ensures) ∙ c .if1 .left) ∙ l .loop .inv .1)
 
--- src/shared.rt:29:1
 returns-2 : tie.Need-returns-2 Inv-loop μ-loop
 returns-2 c =
     let l = c .before in
