@@ -66,4 +66,5 @@ module _ (h : Head) (b : HeadBounds h) where
       let g = b .gens in
       let n = b .basis in
       ap headForm (fields-written (head-clear 32 (omega arith)))
-      ∙ sym (head-whole (headFields h) (h .p) _ (starts-number (h .p) _ (omega arith)) (h .letters) _ (starts-number (h .letters) _ (omega arith)) (h .gens) _ (starts-number (h .gens) _ (omega arith)) (h .basis) (ends-number (h .basis) (omega arith)))
+      ∙ sym (head-whole (headFields h) (h .p) _ (starts-number (h .p) _ (omega arith)) (h .letters) _ (starts-number (h .letters) _ (omega arith))
+      (h .gens) _ (starts-number (h .gens) _ (omega arith)) (h .basis) (ends-number (h .basis) (omega arith)))

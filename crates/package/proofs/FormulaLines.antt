@@ -65,7 +65,8 @@ pub row-shapeless : (p letters : ℕ) (lim : Limits) (v : List ℕ) (n : ℕ) (l
 unfolding judgeRow rowJudged
 row-shapeless p letters lim v n l q = rw (judgeRow, q)
 
-module _ (p letters : ℕ) (lim : Limits) (v : List ℕ) (n : ℕ) (s : List ℕ) (at m a k c : ℕ) (b : a + k ≤ m) (q : rowForm (fields (part s at m)) ≡ row c (part (part s at m) a k)) where
+module _ (p letters : ℕ) (lim : Limits) (v : List ℕ) (n : ℕ) (s : List ℕ) (at m a k c : ℕ) (b : a + k ≤ m)
+    (q : rowForm (fields (part s at m)) ≡ row c (part (part s at m) a k)) where
   the-row : rowForm (fields (part s at m)) ≡ row c (part s (at + a) k)
   the-row = q ∙ ap (row c) (part-part (drop at s) a k m b ∙ ap (take k) (drop-drop a at s))
 
@@ -91,7 +92,8 @@ pub reach-row : (r : RowRead) (c a n m : ℕ) → r ≡ Row c a n → reachRow r
 unfolding reachRow
 reach-row r c a n m q h = rw q at h
 
-pub reach-row-part : (s : List ℕ) (at e : ℕ) (r : RowRead) (c a n : ℕ) → at ≤ e → e ≤ length s → r ≡ Row c a n → reachRow r ≤ length (take (e - at) (drop at s)) → a + n ≤ e - at
+pub reach-row-part : (s : List ℕ) (at e : ℕ) (r : RowRead) (c a n : ℕ) → at ≤ e → e ≤ length s → r ≡ Row c a n → reachRow r ≤ length
+    (take (e - at) (drop at s)) → a + n ≤ e - at
 reach-row-part s at e r c a n h z q b =
     let b′ = reach-row r c a n (length (take (e - at) (drop at s))) q b in
     let y : e - at ≤ length (drop at s) = rw (length-drop at s) (omega arith) in
@@ -103,7 +105,17 @@ unfolding rowFits
 fits-room p letters lim v n c w = go (coefFits p c) (wordFits (lim .len) letters w) (ltb n (lim .terms)) refl
   where
     go : (t u x : Bool) → ltb n (lim .terms) ≡ x
-        → _≡_ {A = Bool} (elim t [ false ↦ false | true ↦ elim u [ false ↦ false | true ↦ elim x [ false ↦ false | true ↦ elim (eqb n 0) [ true ↦ true | false ↦ isBelow w v ] ] ] ]) true
+        → _≡_ {A = Bool} (elim t [
+          | false ↦ false
+          | true ↦ elim u [
+            | false ↦ false
+            | true ↦ elim x [
+              | false ↦ false
+              | true ↦ elim
+                  (eqb n 0) [ true ↦ true | false ↦ isBelow w v ]
+            ]
+          ]
+        ]) true
         → n < lim .terms
     go false u x e h = absurd (false≢true h)
     go true false x e h = absurd (false≢true h)

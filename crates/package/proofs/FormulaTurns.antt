@@ -63,7 +63,8 @@ module _ (s cs os ls : List ℕ) where
 module _ (p letters : ℕ) (lim : Limits) (v s cs os ls : List ℕ) (n line at e c o l : ℕ) (cs′ os′ ls′ : List ℕ)
     (a : cs′ ≡ set cs n c) (b : os′ ≡ set os n o) (d : ls′ ≡ set ls n l) (x : n < length cs) (y : n < length os) (z : n < length ls) where
   pub rows-again : e ≡ at + stop 10 (drop at s) → e < length s → judgeRow p letters lim v n (part s at (e - at)) ≡ row c (part s o l)
-      → rows p letters lim (part s o l) (rowsHeld s cs′ os′ ls′ (n + 1)) (line + 1) (lines (drop (e + 1) s)) ≡ rows p letters lim v (rowsHeld s cs os ls n) line (lines (drop at s))
+      → rows p letters lim (part s o l) (rowsHeld s cs′ os′ ls′ (n + 1)) (line + 1) (lines (drop (e + 1) s)) ≡ rows p letters lim v
+      (rowsHeld s cs os ls n) line (lines (drop at s))
   rows-again q w j =
       let j′ : judgeRow p letters lim v (length (rowsHeld s cs os ls n)) (part s at (e - at)) ≡ row c (part s o l) = rw (rows-length s cs os ls n) j in
       rw (a, b, d, add-one n, rows-stored s cs os ls n c o l x y z) (rows-more p letters lim v (rowsHeld s cs os ls n) line s at e q w c (part s o l) j′)

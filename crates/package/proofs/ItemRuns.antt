@@ -39,22 +39,26 @@ numbered-none : (h : Head) (j b : ℕ) (ts : List TermLine) → j < b → Rising
 unfolding numbered slotsOf
 numbered-none h j b [] l ends = refl
 numbered-none h j b (t ∷ ts) l (rises m r) =
-    rw (numbered, ne-eqb (slot h (t .kind) (t .item)) j (λ (e : slot h (t .kind) (t .item) ≡ j). omega arith)) (numbered-none h j (slot h (t .kind) (t .item)) ts (omega arith) r)
+    rw (numbered, ne-eqb (slot h (t .kind) (t .item)) j (λ (e : slot h (t .kind) (t .item) ≡ j). omega arith))
+    (numbered-none h j (slot h (t .kind) (t .item)) ts (omega arith) r)
 
 run-numbered : (h : Head) (j b : ℕ) (ts : List TermLine) → Rising b (slotsOf h ts) → itemRun h j ts ≡ numbered h j ts
 unfolding slotsOf numbered firstOf
 run-numbered h j b [] r = refl
-run-numbered h j b (t ∷ ts) (rises m r) = go (decLt (slot h (t .kind) (t .item)) j) (ℕ-discrete (slot h (t .kind) (t .item)) j) (run-numbered h j (slot h (t .kind) (t .item)) ts r)
+run-numbered h j b (t ∷ ts) (rises m r) = go (decLt (slot h (t .kind) (t .item)) j) (ℕ-discrete (slot h (t .kind) (t .item)) j)
+    (run-numbered h j (slot h (t .kind) (t .item)) ts r)
   where
     go : Dec ((slot h (t .kind) (t .item)) < j) → Dec ((slot h (t .kind) (t .item)) ≡ j) → itemRun h j ts ≡ numbered h j ts → itemRun h j (t ∷ ts) ≡ numbered h j (t ∷ ts)
     go (yes l) d ih =
         let a : firstOf j ((slot h (t .kind) (t .item)) ∷ (slotsOf h ts)) ≡ suc (firstOf j (slotsOf h ts)) = rw (firstOf, lt-ltb (slot h (t .kind) (t .item)) j l) in
-        let c : firstOf (suc j) ((slot h (t .kind) (t .item)) ∷ (slotsOf h ts)) ≡ suc (firstOf (suc j) (slotsOf h ts)) = rw (firstOf, lt-ltb (slot h (t .kind) (t .item)) (suc j) (omega arith)) in
+        let c : firstOf (suc j) ((slot h (t .kind) (t .item)) ∷ (slotsOf h ts)) ≡ suc (firstOf (suc j) (slotsOf h ts)) = rw
+        (firstOf, lt-ltb (slot h (t .kind) (t .item)) (suc j) (omega arith)) in
         let z : suc (firstOf (suc j) (slotsOf h ts)) - suc (firstOf j (slotsOf h ts)) ≡ firstOf (suc j) (slotsOf h ts) - firstOf j (slotsOf h ts) = omega arith in
         rw (a, c, z, numbered, ne-eqb (slot h (t .kind) (t .item)) j (λ (e : (slot h (t .kind) (t .item)) ≡ j). omega arith)) ih
     go (no l) (yes e) ih =
         let a : firstOf j ((slot h (t .kind) (t .item)) ∷ (slotsOf h ts)) ≡ 0 = rw (firstOf, le-ltb (slot h (t .kind) (t .item)) j (omega arith)) in
-        let c : firstOf (suc j) ((slot h (t .kind) (t .item)) ∷ (slotsOf h ts)) ≡ suc (firstOf (suc j) (slotsOf h ts)) = rw (firstOf, lt-ltb (slot h (t .kind) (t .item)) (suc j) (omega arith)) in
+        let c : firstOf (suc j) ((slot h (t .kind) (t .item)) ∷ (slotsOf h ts)) ≡ suc (firstOf (suc j) (slotsOf h ts)) = rw
+        (firstOf, lt-ltb (slot h (t .kind) (t .item)) (suc j) (omega arith)) in
         let n : firstOf j (slotsOf h ts) ≡ 0 = first-none j (slot h (t .kind) (t .item)) (slotsOf h ts) (omega arith) r in
         let z : firstOf (suc j) (slotsOf h ts) - 0 ≡ firstOf (suc j) (slotsOf h ts) = omega arith in
         let y : suc (firstOf (suc j) (slotsOf h ts)) - 0 ≡ suc (firstOf (suc j) (slotsOf h ts)) = omega arith in
@@ -77,7 +81,8 @@ in-range : (h : Head) (lim : Limits) (k i c : ℕ) (w : List ℕ) → within 1 2
 unfolding termFits
 in-range h lim k i c w r = go (within 1 (itemsOf h k) i) refl
   where
-    go : (t : Bool) → within 1 (itemsOf h k) i ≡ t → _≡_ {A = Bool} (elim t [ false ↦ false | true ↦ elim (coefFits (h .p) c) [ false ↦ false | true ↦ wordFits (lim .len) (h .letters) w ] ]) true → InRange h k i
+    go : (t : Bool) → within 1 (itemsOf h k) i ≡ t → _≡_ {A = Bool}
+        (elim t [ false ↦ false | true ↦ elim (coefFits (h .p) c) [ false ↦ false | true ↦ wordFits (lim .len) (h .letters) w ] ]) true → InRange h k i
     go false e q = absurd (false≢true q)
     go true e q =
         let a = within-bounds 1 2 k r in
@@ -155,7 +160,8 @@ unfolding follows
 follows-order a k i w = go (eqb k (a .kind)) (eqb i (a .item)) refl refl
   where
     go : (t u : Bool) → eqb k (a .kind) ≡ t → eqb i (a .item) ≡ u
-        → _≡_ {A = Bool} (elim t [ false ↦ ltb (a .kind) k | true ↦ elim u [ false ↦ ltb (a .item) i | true ↦ isBelow w (a .word) ] ]) true → (a .kind < k) ⊎ ((a .kind ≡ k) × (a .item ≤ i))
+        → _≡_ {A = Bool} (elim t [ false ↦ ltb (a .kind) k | true ↦ elim u [ false ↦ ltb (a .item) i | true ↦ isBelow w (a .word) ] ]) true →
+        (a .kind < k) ⊎ ((a .kind ≡ k) × (a .item ≤ i))
     go false u p q e = inl (ltb-true (a .kind) k e)
     go true false p q e = inr (sym (eqb-true k (a .kind) p), omega (arith, ltb-true (a .item) i e))
     go true true p q e = inr (sym (eqb-true k (a .kind) p), omega (arith, eqb-true i (a .item) q))
@@ -173,7 +179,8 @@ module _ (h : Head) (lim : Limits) where
   unfolding slotsOf
   rising-start [] noTerms = ends
   rising-start (t ∷ ts) (termThen o os) =
-      rises {b = 0} {x = slot h (t .kind) (t .item)} (omega arith) (rising (under start t) 1 ts (in-range h lim (t .kind) (t .item) (t .coef) (t .word) (o .ranked) (o .fits)) os)
+      rises {b = 0} {x = slot h (t .kind) (t .item)} (omega arith)
+      (rising (under start t) 1 ts (in-range h lim (t .kind) (t .item) (t .coef) (t .word) (o .ranked) (o .fits)) os)
 
   -- In range, the terms of an item are those of its number.
   module _ (k i : ℕ) (r : InRange h k i) where
@@ -181,9 +188,11 @@ module _ (h : Head) (lim : Limits) where
     unfolding numbered itemTerms
     numbered-item a n [] noTerms = refl
     numbered-item a n (t ∷ ts) (termThen o os) =
-        go (ℕ-discrete (t .kind) k) (ℕ-discrete (t .item) i) (in-range h lim (t .kind) (t .item) (t .coef) (t .word) (o .ranked) (o .fits)) (numbered-item (under a t) (suc n) ts os)
+        go (ℕ-discrete (t .kind) k) (ℕ-discrete (t .item) i) (in-range h lim (t .kind) (t .item) (t .coef) (t .word) (o .ranked) (o .fits))
+        (numbered-item (under a t) (suc n) ts os)
       where
-        go : Dec (t .kind ≡ k) → Dec (t .item ≡ i) → InRange h (t .kind) (t .item) → numbered h (slot h k i) ts ≡ itemTerms k i ts → numbered h (slot h k i) (t ∷ ts) ≡ itemTerms k i (t ∷ ts)
+        go : Dec (t .kind ≡ k) → Dec (t .item ≡ i) → InRange h (t .kind) (t .item) → numbered h (slot h k i) ts ≡ itemTerms k i ts → numbered h
+            (slot h k i) (t ∷ ts) ≡ itemTerms k i (t ∷ ts)
         go (yes p) (yes q) s ih =
             let e : slot h (t .kind) (t .item) ≡ slot h k i = rw (p, q) in
             rw (numbered, eq-eqb (slot h (t .kind) (t .item)) (slot h k i) e, itemTerms, eq-eqb (t .kind) k p, eq-eqb (t .item) i q, ih)

@@ -40,7 +40,8 @@ module _ (h : Head) (ks is : List ℕ) where
 pub slots-kept : (h : Head) (s ks is cs os ls : List ℕ) (n : ℕ) → slotsOf h (kept s ks is cs os ls n) ≡ slotsHeld h ks is n
 unfolding slotsOf slotsHeld kept
 slots-kept h s ks is cs os ls zero = refl
-slots-kept h s ks is cs os ls (suc n) = append (kept s ks is cs os ls n) ∙ ap (λ (xs : List ℕ). xs ++ (slot h (getD ks n 0) (getD is n 0) ∷ [])) (slots-kept h s ks is cs os ls n)
+slots-kept h s ks is cs os ls (suc n) = append (kept s ks is cs os ls n) ∙ ap (λ (xs : List ℕ). xs ++ (slot h (getD ks n 0) (getD is n 0) ∷ []))
+    (slots-kept h s ks is cs os ls n)
   where
     append : (ts : List TermLine) → slotsOf h (ts ++ (termAt s ks is cs os ls n ∷ [])) ≡ slotsOf h ts ++ (slot h (getD ks n 0) (getD is n 0) ∷ [])
     append [] = refl

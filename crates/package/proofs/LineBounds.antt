@@ -39,7 +39,7 @@ head-bounds h a b =
     record { most = prime-most (h .p) a; letters = c .0; gens = c .1; basis = c .2 }
 
 -- Coefficients and words in bounds.
-coef-below : (p c : ℕ) → coefFits p c ≡ true → c < p
+pub coef-below : (p c : ℕ) → coefFits p c ≡ true → c < p
 unfolding coefFits
 coef-below p c = go (ltb 0 c)
   where
@@ -47,7 +47,7 @@ coef-below p c = go (ltb 0 c)
     go false h = absurd (false≢true h)
     go true h = ltb-true c p h
 
-word-letters : (most letters : ℕ) (w : List ℕ) → letters ≤ 26 → wordFits most letters w ≡ true → allWithin 97 122 w ≡ true
+pub word-letters : (most letters : ℕ) (w : List ℕ) → letters ≤ 26 → wordFits most letters w ≡ true → allWithin 97 122 w ≡ true
 unfolding wordFits
 word-letters most letters w l = go (ltb most (length w))
   where

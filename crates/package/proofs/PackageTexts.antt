@@ -23,28 +23,22 @@ use Rattle.package.specs.Terms.{TermLine, start, Block2, refused2, ended
 use Rattle.package.specs.Writing.{headFields, termLines, sumLines, packageLines, writePackage}
 use Rattle.package.specs.declared.Head.{Head}
 use Rattle.text.proofs.Bytewise.{same-equal}
-use Rattle.text.proofs.PieceTexts.{joined-pieces, clear-pieces, lines-written}
+use Rattle.text.proofs.PieceTexts.{joined-pieces, lines-written, without-final}
 use Rattle.text.specs.Bytes.{same}
-use Rattle.text.specs.Pieces.{Pieces, final, piece, onto, pieces, lines, fields, writeFields, writeLines, Without, Clear, clear, clears}
+use Rattle.text.specs.Pieces.{Pieces, final, piece, onto, pieces, lines, fields, writeFields, writeLines, Without, Clear, clears}
 
 -- Names lines hold no byte 10.
-unclear : {l : List ℕ} → Clear 10 (final l) → Without 10 l
-unclear (clear w) = w
-
-no-end : (l : List ℕ) → lines l ≡ final l → Without 10 l
-no-end l e = unclear (subst (Clear 10) e (clear-pieces 10 l))
-
 head-names-clear : Without 10 headNames
 unfolding pieces onto
-head-names-clear = no-end headNames refl
+head-names-clear = without-final headNames refl
 
 term-names-clear : Without 10 termNames
 unfolding pieces onto
-term-names-clear = no-end termNames refl
+term-names-clear = without-final termNames refl
 
 sum-names-clear : Without 10 sumNames
 unfolding pieces onto
-sum-names-clear = no-end sumNames refl
+sum-names-clear = without-final sumNames refl
 
 -- A readable package is read back from its text.
 module _ (P : Package) (r : Readable P) where
@@ -66,7 +60,8 @@ module _ (P : Package) (r : Readable P) where
       let s : SumsInOrder (P .head) packageLimits 0 0 (suc (4 + length (P .terms))) (P .sums) = rw z at (r .sums) in
       let t = text-block2 (P .head) packageLimits bounds (sumLines (P .sums)) start [] (P .terms) 4 0 refl (r .terms) in
       let u = text-block3 (P .head) packageLimits bounds 0 0 (suc (4 + length (P .terms))) (P .sums) s in
-      sym (lower-read (P .head) packageLimits _ (P .terms) (suc (4 + length (P .terms))) (sumLines (P .sums)) t (u .0)) ∙ ap (λ (xs : List SumLine). read (record { head = P .head; terms = P .terms; sums = xs })) (u .1)
+      sym (lower-read (P .head) packageLimits _ (P .terms) (suc (4 + length (P .terms))) (sumLines (P .sums)) t (u .0)) ∙ ap
+      (λ (xs : List SumLine). read (record { head = P .head; terms = P .terms; sums = xs })) (u .1)
 
   written-lines : line1 packageLimits (packageLines P) ≡ read P
   unfolding packageLines line1 line2 line3
@@ -100,7 +95,8 @@ module _ (P : Package) where
       }
 
   module _ (h : Head) (ps : Pieces) (e : lowerBlocks h packageLimits ps ≡ read P) where
-    by-sums : (ts : List TermLine) (n : ℕ) (ms : Pieces) → block2 h packageLimits start [] 4 ps ≡ ended2 ts n ms → (x : Block3) → block3 h packageLimits 0 0 n ms ≡ x → LowerText h ps
+    by-sums : (ts : List TermLine) (n : ℕ) (ms : Pieces) → block2 h packageLimits start [] 4 ps ≡ ended2 ts n ms → (x : Block3)
+        → block3 h packageLimits 0 0 n ms ≡ x → LowerText h ps
     by-sums ts n ms a (refused3 v k) b = absurd (refused-not v k (lower-fault h packageLimits ps ts n ms a v k b ∙ e))
     by-sums ts n ms a fine b =
         let z : read (record { head = h; terms = ts; sums = sumsOf n ms }) ≡ read P = lower-read h packageLimits ps ts n ms a b ∙ e in

@@ -58,6 +58,8 @@ module _ (s ks is cs os ls : List ℕ) (h : Head) (m at n : ℕ) where
         → take (getD fs (suc (slot h k i)) 0 - getD fs (slot h k i) 0) (drop (getD fs (slot h k i) 0) (kept s ks is cs os ls m)) ≡ itemTerms k i (kept s ks is cs os ls m)
     whole-item fs marked k i a b =
         let l = slot-most h k i a b in
-        let x : getD fs (slot h k i) 0 ≡ firstOf (slot h k i) (slotsOf h (kept s ks is cs os ls m)) = marked (slot h k i) (omega arith) ∙ ap (firstOf (slot h k i)) (sym (slots-kept h s ks is cs os ls m)) in
-        let y : getD fs (suc (slot h k i)) 0 ≡ firstOf (suc (slot h k i)) (slotsOf h (kept s ks is cs os ls m)) = marked (suc (slot h k i)) (omega arith) ∙ ap (firstOf (suc (slot h k i))) (sym (slots-kept h s ks is cs os ls m)) in
+        let x : getD fs (slot h k i) 0 ≡ firstOf (slot h k i) (slotsOf h (kept s ks is cs os ls m)) = marked (slot h k i) (omega arith) ∙ ap
+        (firstOf (slot h k i)) (sym (slots-kept h s ks is cs os ls m)) in
+        let y : getD fs (suc (slot h k i)) 0 ≡ firstOf (suc (slot h k i)) (slotsOf h (kept s ks is cs os ls m)) = marked (suc (slot h k i))
+        (omega arith) ∙ ap (firstOf (suc (slot h k i))) (sym (slots-kept h s ks is cs os ls m)) in
         rw (x, y) (item-run wholePackage whole-readable k i a b)

@@ -59,7 +59,8 @@ module _ (h : Head) (lim : Limits) where
   block3-text (final (x ∷ xs)) k′ i′ n e = absurd (let y : _≡_ {A = ℕ} 0 1 = cc in omega arith)
   block3-text (piece l ls) k′ i′ n e = by-verdict (judgeSum h lim k′ i′ l) refl (block3-text ls)
     where
-      by-verdict : (v : SumVerdict) → judgeSum h lim k′ i′ l ≡ v → ((k i m : ℕ) → block3 h lim k i m ls ≡ fine → Block3Text h lim k i m ls) → Block3Text h lim k′ i′ n (piece l ls)
+      by-verdict : (v : SumVerdict) → judgeSum h lim k′ i′ l ≡ v → ((k i m : ℕ) → block3 h lim k i m ls ≡ fine → Block3Text h lim k i m ls)
+          → Block3Text h lim k′ i′ n (piece l ls)
       by-verdict (refuse3 r) j ih = absurd (let z : refused3 r n ≡ fine = rw (block3, j) at e in let y : _≡_ {A = ℕ} 0 1 = cc in omega arith)
       by-verdict (accept3 k i) j ih =
           let a = accepted-sum h lim k′ i′ l k i j in

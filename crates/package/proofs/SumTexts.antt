@@ -60,7 +60,8 @@ module _ (ps : Pieces) (k i c : ℕ) (l : List ℕ) (o : ℕ) (r : List ℕ) (h 
                 cut =
                     A .0
                     ∙ ap (piece (writeKind sumKinds k′))
-                    (B .0 ∙ ap (piece (writeNumber i′)) (C .0 ∙ ap (piece (writeNumber c′)) (D .0 ∙ ap (piece (writeWord l′)) (E .0 ∙ ap (piece (writeNumber o′)) (F .0)))));
+                    (B .0 ∙ ap (piece (writeNumber i′)) (C .0 ∙ ap (piece (writeNumber c′))
+                    (D .0 ∙ ap (piece (writeWord l′)) (E .0 ∙ ap (piece (writeNumber o′)) (F .0)))));
                 ranked = A .1;
                 item = B .1;
                 coef = C .1;
@@ -125,4 +126,5 @@ module _ (k i c : ℕ) (l : List ℕ) (o : ℕ) (r : List ℕ) (x : within 1 3 k
   unfolding sumFields
   text-sum a b d =
       ap sumForm (fields-written (fields-clear 32 (omega arith)))
-      ∙ sym (sum-whole (sumFields k i c l o r) k _ (starts-kind sumKinds k _ (known-kind k (within-bounds 1 3 k x))) i _ (starts-number i _ a) c _ (starts-number c _ b) l _ (starts-word l _ y) o _ (starts-number o _ d) r (ends-word r z))
+      ∙ sym (sum-whole (sumFields k i c l o r) k _ (starts-kind sumKinds k _ (known-kind k (within-bounds 1 3 k x))) i _ (starts-number i _ a) c _
+      (starts-number c _ b) l _ (starts-word l _ y) o _ (starts-number o _ d) r (ends-word r z))

@@ -26,6 +26,7 @@ module _ (h : Head) (lim : Limits) (k′ i′ n : ℕ) (s : List ℕ) (at : ℕ)
       unfolding block3
       sums-refuse r j = rw (cut-more 10 s at e q z, block3, j)
 
-      pub sums-accept : (k i : ℕ) → judgeSum h lim k′ i′ (part s at (e - at)) ≡ accept3 k i → block3 h lim k i (n + 1) (lines (drop (e + 1) s)) ≡ block3 h lim k′ i′ n (lines (drop at s))
+      pub sums-accept : (k i : ℕ) → judgeSum h lim k′ i′ (part s at (e - at)) ≡ accept3 k i → block3 h lim k i (n + 1)
+          (lines (drop (e + 1) s)) ≡ block3 h lim k′ i′ n (lines (drop at s))
       unfolding block3
       sums-accept k i j = rw (cut-more 10 s at e q z, block3, j, add-one n)

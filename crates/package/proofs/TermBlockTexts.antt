@@ -68,7 +68,8 @@ module _ (h : Head) (lim : Limits) (ts : List TermLine) (n′ : ℕ) (ms : Piece
   block2-text (final x) a ts₀ n e = absurd (let y : _≡_ {A = ℕ} 0 1 = cc in omega arith)
   block2-text (piece l ls) a ts₀ n e = by-names (same l sumNames) refl (block2-text ls)
     where
-      by-names : (t : Bool) → same l sumNames ≡ t → ((a′ : LineAbove) (ts′ : List TermLine) (k : ℕ) → block2 h lim a′ ts′ k ls ≡ ended2 ts n′ ms → Block2Text h lim a′ ts′ k ls ts n′ ms)
+      by-names : (t : Bool) → same l sumNames ≡ t → ((a′ : LineAbove) (ts′ : List TermLine) (k : ℕ) → block2 h lim a′ ts′ k ls ≡ ended2 ts n′ ms
+          → Block2Text h lim a′ ts′ k ls ts n′ ms)
           → Block2Text h lim a ts₀ n (piece l ls) ts n′ ms
       by-names true q ih =
           let z : ended2 ts₀ (suc n) ls ≡ ended2 ts n′ ms = rw (block2, q) at e in
@@ -100,7 +101,8 @@ module _ (h : Head) (lim : Limits) (ts : List TermLine) (n′ : ℕ) (ms : Piece
               }
 
 -- A term in order is accepted.
-pub in-order-accepted : (h : Head) (lim : Limits) (a : LineAbove) (n : ℕ) (l : List ℕ) (t : TermLine) → termForm (fields l) ≡ term (t .kind) (t .item) (t .coef) (t .word) → TermInOrder h lim a n t
+pub in-order-accepted : (h : Head) (lim : Limits) (a : LineAbove) (n : ℕ) (l : List ℕ) (t : TermLine) → termForm (fields l) ≡ term (t .kind) (t .item)
+    (t .coef) (t .word) → TermInOrder h lim a n t
     → judgeTerm h lim a n l ≡ accept (t .kind) (t .item) (t .coef) (t .word)
 unfolding judgeTerm
 in-order-accepted h lim a n l t f o =

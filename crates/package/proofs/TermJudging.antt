@@ -56,7 +56,8 @@ pub judge-2 : (h : Head) (lim : Limits) (a : LineAbove) (n : ℕ) (l : List ℕ)
 unfolding judgeTerm judged
 judge-2 h lim a n l q = rw (judgeTerm, q)
 
-pub judge-read : (h : Head) (lim : Limits) (ab : LineAbove) (t : ℕ) (s : List ℕ) (at m k i c a n : ℕ) → a + n ≤ m → termForm (fields (part s at m)) ≡ term k i c (part (part s at m) a n)
+pub judge-read : (h : Head) (lim : Limits) (ab : LineAbove) (t : ℕ) (s : List ℕ) (at m k i c a n : ℕ) → a + n ≤ m → termForm
+    (fields (part s at m)) ≡ term k i c (part (part s at m) a n)
     → judged h lim ab t (term k i c (part s (at + a) n)) ≡ judgeTerm h lim ab t (part s at m)
 unfolding judgeTerm
 judge-read h lim ab t s at m k i c a n b q =
@@ -82,12 +83,14 @@ room : (lim : Limits) (a : LineAbove) (n k i : ℕ) → hasRoom lim a n k i ≡ 
 unfolding hasRoom
 room lim a n k i = go (ltb (lim .terms) (counted a k i)) refl
   where
-    go : (t : Bool) → ltb (lim .terms) (counted a k i) ≡ t → _≡_ {A = Bool} (elim t [ true ↦ false | false ↦ ltb n 1024 ]) true → (n < 1024) × (counted a k i ≤ (lim .terms))
+    go : (t : Bool) → ltb (lim .terms) (counted a k i) ≡ t → _≡_ {A = Bool} (elim t [ true ↦ false | false ↦ ltb n 1024 ]) true → (n < 1024) ×
+        (counted a k i ≤ (lim .terms))
     go true e h = let z : _≡_ {A = Bool} false true = h in absurd (let y : _≡_ {A = ℕ} 0 1 = cc in omega arith)
     go false e h = (ltb-true n 1024 h, ltb-false (lim .terms) (counted a k i) e)
 
 module _ (lim : Limits) (a : LineAbove) (n k i c k′ i′ c′ : ℕ) (w w′ : List ℕ) where
-  last-test : (t : Bool) → hasRoom lim a n k′ i′ ≡ t → _≡_ {A = TermVerdict} (elim t [ false ↦ refuse 7 | true ↦ accept k′ i′ c′ w′ ]) (accept k i c w) → (n < 1024) × (counted a k i ≤ (lim .terms))
+  last-test : (t : Bool) → hasRoom lim a n k′ i′ ≡ t → _≡_ {A = TermVerdict} (elim t [ false ↦ refuse 7 | true ↦ accept k′ i′ c′ w′ ])
+      (accept k i c w) → (n < 1024) × (counted a k i ≤ (lim .terms))
   last-test true e h =
       let p : k′ ≡ k = cc in
       let q : i′ ≡ i = cc in
@@ -95,17 +98,26 @@ module _ (lim : Limits) (a : LineAbove) (n k i c k′ i′ c′ : ℕ) (w w′ :
       rw (p, q) at r
   last-test false e h = absurd (let y : _≡_ {A = ℕ} 0 1 = cc in omega arith)
 
-pub accept-room : (h : Head) (lim : Limits) (a : LineAbove) (n : ℕ) (f : TermForm) (k i c : ℕ) (w : List ℕ) → judged h lim a n f ≡ accept k i c w → (n < 1024) × (counted a k i ≤ (lim .terms))
+pub accept-room : (h : Head) (lim : Limits) (a : LineAbove) (n : ℕ) (f : TermForm) (k i c : ℕ) (w : List ℕ) → judged h lim a n f ≡ accept k i c w →
+    (n < 1024) × (counted a k i ≤ (lim .terms))
 unfolding judged
 accept-room h lim a n noTerm k i c w e = absurd (let y : _≡_ {A = ℕ} 0 1 = cc in omega arith)
 accept-room h lim a n (term k′ i′ c′ w′) k i c w e = go (termFits h lim k′ i′ c′ w′) (follows a k′ i′ w′) e
   where
-    go : (t u : Bool) → _≡_ {A = TermVerdict} (elim t [ false ↦ refuse 5 | true ↦ elim u [ false ↦ refuse 6 | true ↦ elim (hasRoom lim a n k′ i′) [ false ↦ refuse 7 | true ↦ accept k′ i′ c′ w′ ] ] ]) (accept k i c w)
+    go : (t u : Bool) → _≡_ {A = TermVerdict} (elim t [
+      | false ↦ refuse 5
+      | true ↦ elim u [
+        | false ↦ refuse 6
+        | true ↦ elim
+            (hasRoom lim a n k′ i′) [ false ↦ refuse 7 | true ↦ accept k′ i′ c′ w′ ]
+      ]
+    ]) (accept k i c w)
         → (n < 1024) × (counted a k i ≤ (lim .terms))
     go false u e = absurd (let y : _≡_ {A = ℕ} 0 1 = cc in omega arith)
     go true false e = absurd (let y : _≡_ {A = ℕ} 0 1 = cc in omega arith)
     go true true e = last-test lim a n k i c k′ i′ c′ w w′ (hasRoom lim a n k′ i′) refl e
 
-pub judged-room : (h : Head) (lim : Limits) (a : LineAbove) (n : ℕ) (l : List ℕ) (k i c : ℕ) (w : List ℕ) → judgeTerm h lim a n l ≡ accept k i c w → (n < 1024) × (counted a k i ≤ (lim .terms))
+pub judged-room : (h : Head) (lim : Limits) (a : LineAbove) (n : ℕ) (l : List ℕ) (k i c : ℕ) (w : List ℕ) → judgeTerm h lim a n l ≡ accept k i c w →
+    (n < 1024) × (counted a k i ≤ (lim .terms))
 unfolding judgeTerm
 judged-room h lim a n l k i c w e = accept-room h lim a n (termForm (pieces 32 l)) k i c w e

@@ -73,7 +73,8 @@ module _ (l : List ℕ) (r : TermRead) (x : TermForm) where
   unfolding seenTerm
   seen-term k i c a n q h = sym h ∙ rw q
 
-pub reach-part : (s : List ℕ) (at e : ℕ) (r : TermRead) (k i c a n : ℕ) → at ≤ e → e ≤ length s → r ≡ Shaped k i c a n → reach r ≤ length (take (e - at) (drop at s)) → a + n ≤ e - at
+pub reach-part : (s : List ℕ) (at e : ℕ) (r : TermRead) (k i c a n : ℕ) → at ≤ e → e ≤ length s → r ≡ Shaped k i c a n → reach r ≤ length
+    (take (e - at) (drop at s)) → a + n ≤ e - at
 unfolding reach
 reach-part s at e r k i c a n h z q b =
     let b′ : a + n ≤ length (take (e - at) (drop at s)) = rw q at b in

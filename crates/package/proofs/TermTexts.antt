@@ -104,7 +104,8 @@ module _ (k i c : ℕ) (w : List ℕ) (r : within 1 2 k ≡ true) (l : allWithin
   unfolding termFields
   text-term a b =
       ap termForm term-fields
-      ∙ sym (form-term (termFields k i c w) k _ (starts-kind termKinds k _ (term-kind k (within-bounds 1 2 k r))) i _ (starts-number i _ a) c _ (starts-number c _ b) w (ends-word w l))
+      ∙ sym (form-term (termFields k i c w) k _ (starts-kind termKinds k _ (term-kind k (within-bounds 1 2 k r))) i _ (starts-number i _ a) c _
+      (starts-number c _ b) w (ends-word w l))
 
   -- It is no names line: it has four fields and not six.
   pub not-names : same (writeFields (termFields k i c w)) sumNames ≡ false

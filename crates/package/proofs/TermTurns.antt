@@ -34,7 +34,8 @@ module _ (h : Head) (lim : Limits) (a : LineAbove) (ts : List TermLine) (n : ℕ
       turn-refuse r j = rw (cut-more 10 s at e q z, block2, m, j)
 
       pub turn-accept : (k i c : ℕ) (w : List ℕ) → judgeTerm h lim a (length ts) (part s at (e - at)) ≡ accept k i c w
-          → block2 h lim (record { kind = k; item = i; word = w; count = counted a k i }) (ts ++ (record { kind = k; item = i; coef = c; word = w } ∷ [])) (suc n) (lines (drop (e + 1) s))
+          → block2 h lim (record { kind = k; item = i; word = w; count = counted a k i })
+          (ts ++ (record { kind = k; item = i; coef = c; word = w } ∷ [])) (suc n) (lines (drop (e + 1) s))
           ≡ block2 h lim a ts n (lines (drop at s))
       unfolding block2
       turn-accept k i c w j = rw (cut-more 10 s at e q z, block2, m, j)
@@ -46,9 +47,12 @@ module _ (h : Head) (lim : Limits) (s : List ℕ) (last : Last) (ks is cs os ls 
   stored : kept s ks′ is′ cs′ os′ ls′ (n + 1) ≡ kept s ks is cs os ls n ++ (record { kind = k; item = i; coef = c; word = part s o l } ∷ [])
   stored = rw (a, b, d, f, g, add-one n) (kept-store s ks is cs os ls n k i c o l (omega arith) (omega arith) (omega arith) (omega arith) (omega arith))
 
-  pub turn-again : e ≡ at + stop 10 (drop at s) → e < length s → same (part s at (e - at)) sumNames ≡ false → judgeTerm h lim (aboveOf s last) n (part s at (e - at)) ≡ accept k i c (part s o l)
+  pub turn-again : e ≡ at + stop 10 (drop at s) → e < length s → same (part s at (e - at)) sumNames ≡ false → judgeTerm h lim (aboveOf s last) n
+      (part s at (e - at)) ≡ accept k i c (part s o l)
       → (m : ℕ) → m ≡ counted (aboveOf s last) k i
-      → block2 h lim (record { kind = k; item = i; word = part s o l; count = m }) (kept s ks′ is′ cs′ os′ ls′ (n + 1)) (line + 1) (lines (drop (e + 1) s)) ≡ block2 h lim (aboveOf s last) (kept s ks is cs os ls n) line (lines (drop at s))
+      → block2 h lim (record { kind = k; item = i; word = part s o l; count = m }) (kept s ks′ is′ cs′ os′ ls′ (n + 1)) (line + 1)
+      (lines (drop (e + 1) s)) ≡ block2 h lim (aboveOf s last) (kept s ks is cs os ls n) line (lines (drop at s))
   turn-again q w t j m r =
-      let j′ : judgeTerm h lim (aboveOf s last) (length (kept s ks is cs os ls n)) (part s at (e - at)) ≡ accept k i c (part s o l) = rw (kept-length s ks is cs os ls n) j in
+      let j′ : judgeTerm h lim (aboveOf s last) (length (kept s ks is cs os ls n)) (part s at (e - at)) ≡ accept k i c (part s o l) = rw
+      (kept-length s ks is cs os ls n) j in
       rw (stored, add-one line, r) (turn-accept h lim (aboveOf s last) (kept s ks is cs os ls n) line s at e q w t k i c (part s o l) j′)

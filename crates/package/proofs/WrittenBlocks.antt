@@ -34,7 +34,8 @@ module _ (h : Head) (lim : Limits) (b : HeadBounds h) (ms : Pieces) where
       let g = not-names (t .kind) (t .item) (t .coef) (t .word) (o .ranked) (q .letters) in
       let d : length (ts₀ ++ (t ∷ [])) ≡ suc m = rw length-append (omega arith) in
       let z : suc (suc n + length ts) ≡ suc (n + suc (length ts)) = omega arith in
-      rw (block2, g, j′) (text-block2 (under a t) (ts₀ ++ (t ∷ [])) ts (suc n) (suc m) d os ∙ ap₂ (λ (x : List TermLine) (y : ℕ). ended2 x y ms) (append-assoc ts₀ (t ∷ []) ts) z)
+      rw (block2, g, j′) (text-block2 (under a t) (ts₀ ++ (t ∷ [])) ts (suc n) (suc m) d os ∙ ap₂ (λ (x : List TermLine) (y : ℕ). ended2 x y ms)
+      (append-assoc ts₀ (t ∷ []) ts) z)
 
 -- Block 3: it is judged fine, and its sum lines are those that were written.
 module _ (h : Head) (lim : Limits) (b : HeadBounds h) where
@@ -44,7 +45,8 @@ module _ (h : Head) (lim : Limits) (b : HeadBounds h) where
   text-block3 k i n (x ∷ xs) (sumThen o os) =
       let q = sum-numbers h lim (x .kind) (x .item) (x .coef) (x .left) (x .of) (x .right) b (o .fits) in
       let f = text-sum (x .kind) (x .item) (x .coef) (x .left) (x .of) (x .right) (o .ranked) (q .lefts) (q .rights) (o .digits) (q .coef) (q .of) in
-      let j = sym (judge3-0 h lim k i (writeFields (sumFields (x .kind) (x .item) (x .coef) (x .left) (x .of) (x .right))) (x .kind) (x .item) (x .coef) (x .left) (x .of) (x .right) f (o .fits) (o .order)) in
+      let j = sym (judge3-0 h lim k i (writeFields (sumFields (x .kind) (x .item) (x .coef) (x .left) (x .of) (x .right))) (x .kind) (x .item)
+      (x .coef) (x .left) (x .of) (x .right) f (o .fits) (o .order)) in
       let z = text-block3 (x .kind) (x .item) (suc n) xs os in
       (rw (block3, j) (z .0), rw (sumsOf, f, z .1, ← o .numbered))
 

@@ -1,9 +1,11 @@
--- Which packages read, as a statement: counts in bounds, and every term and sum line in bounds and in order.
+-- Which packages and formulas read, as statements: counts in bounds, and every term and sum line in bounds and in order.
 use mathlib.Core.Path.{_≡_}
 use mathlib.Core.Bool.{true}
 use mathlib.Core.List.{List, [], _∷_}
 use Prim.Native.Nat.{ℕ, suc, _+_, _<_}
 use lib.ListN.{length}
+use Rattle.algebra.specs.Poly.{Term}
+use Rattle.package.specs.Formula.{rowFits}
 use Rattle.package.specs.Head.{primeFits, countsFit}
 use Rattle.package.specs.Package.{Package, packageLimits}
 use Rattle.package.specs.Sums.{SumLine, sumFits, sumFollows}
@@ -47,3 +49,9 @@ pub record Readable (P : Package) : Type 0 where
   pub counts : countsFit (P .head) ≡ true
   pub terms : TermsInOrder (P .head) packageLimits start 0 (P .terms)
   pub sums : SumsInOrder (P .head) packageLimits 0 0 (5 + length (P .terms)) (P .sums)
+
+-- The terms of a formula behind n terms, the last of which has the word v: each in bounds, below the one above, and not one too many.
+pub data RowsInOrder (p letters : ℕ) (m : Limits) : List ℕ → ℕ → List Term → Type 0 where
+  noRows : {v : List ℕ} {n : ℕ} → RowsInOrder p letters m v n []
+  rowThen : {v : List ℕ} {n : ℕ} {t : Term} {ts : List Term} → rowFits p letters m v n (t .coef) (t .word) ≡ true → RowsInOrder p letters m (t .word) (suc n) ts
+      → RowsInOrder p letters m v n (t ∷ ts)

@@ -1,7 +1,8 @@
--- A package as it is written: its names lines, and a line for the counts, for each term and for each sum line.
+-- Packages and formulas as they are written: names lines, and a line for the counts, for each term and for each sum line.
 use mathlib.Core.List.{List, [], _∷_}
 use Prim.Native.Nat.{ℕ}
-use Rattle.package.specs.Names.{headNames, termNames, sumNames, termKinds, sumKinds}
+use Rattle.algebra.specs.Poly.{Term}
+use Rattle.package.specs.Names.{headNames, termNames, sumNames, formulaNames, termKinds, sumKinds}
 use Rattle.package.specs.Package.{Package}
 use Rattle.package.specs.Sums.{SumLine}
 use Rattle.package.specs.Terms.{TermLine}
@@ -47,3 +48,18 @@ packageLines P = piece headNames (piece (writeFields (headFields (P .head))) (pi
 unfoldable pub writePackage : Package → List ℕ
 unfolding packageLines joined
 writePackage P = writeLines (packageLines P)
+
+-- The fields of a line of a formula: coef word.
+unfoldable pub rowFields : ℕ → List ℕ → Pieces
+rowFields c w = piece (writeNumber c) (final (writeWord w))
+
+-- The terms of a formula, and nothing below them.
+unfoldable pub rowLines : List Term → Pieces
+unfolding rowFields joined
+rowLines [] = final []
+rowLines (t ∷ ts) = piece (writeFields (rowFields (t .coef) (t .word))) (rowLines ts)
+
+-- The bytes of a formula.
+unfoldable pub writeFormula : List Term → List ℕ
+unfolding rowLines joined
+writeFormula ts = writeLines (piece formulaNames (rowLines ts))

@@ -56,7 +56,8 @@ module _ (lo hi x : ℕ) where
   unfolding within
   within-bounds h = go (ltb x lo) (ltb hi x) refl refl h
     where
-      go : (t u : Bool) → ltb x lo ≡ t → ltb hi x ≡ u → _≡_ {A = Bool} (elim t [ true ↦ false | false ↦ elim u [ true ↦ false | false ↦ true ] ]) true → (lo ≤ x) × (x ≤ hi)
+      go : (t u : Bool) → ltb x lo ≡ t → ltb hi x ≡ u → _≡_ {A = Bool} (elim t [ true ↦ false | false ↦ elim u [ true ↦ false | false ↦ true ] ]) true
+          → (lo ≤ x) × (x ≤ hi)
       go true u a b e = absurd (false≢true e)
       go false true a b e = absurd (false≢true e)
       go false false a b e = (ltb-false x lo a, ltb-false hi x b)
@@ -66,7 +67,8 @@ pub all-cons : (lo hi x : ℕ) (w : List ℕ) → allWithin lo hi (x ∷ w) ≡ 
 unfolding allWithin
 all-cons lo hi x w h = go (within lo hi x) refl h
   where
-    go : (t : Bool) → within lo hi x ≡ t → _≡_ {A = Bool} (elim t [ true ↦ allWithin lo hi w | false ↦ false ]) true → (within lo hi x ≡ true) × (allWithin lo hi w ≡ true)
+    go : (t : Bool) → within lo hi x ≡ t → _≡_ {A = Bool} (elim t [ true ↦ allWithin lo hi w | false ↦ false ]) true → (within lo hi x ≡ true) ×
+        (allWithin lo hi w ≡ true)
     go true e q = (e, q)
     go false e q = absurd (false≢true q)
 

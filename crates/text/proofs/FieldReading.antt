@@ -30,7 +30,8 @@ module _ (form : List ℕ → Num) (l : List ℕ) (at e : ℕ) (h : e ≡ at + s
   unfolding numThen
   num-wrong n k q w = rw (cut-more 32 l at e h k, ← q, w)
 
-  pub num-value : (n : Num) (v : ℕ) → e < length l → n ≡ form (take (e - at) (drop at l)) → n ≡ Value v → some v (pieces 32 (drop (e + 1) l)) ≡ numThen form (pieces 32 (drop at l))
+  pub num-value : (n : Num) (v : ℕ) → e < length l → n ≡ form (take (e - at) (drop at l)) → n ≡ Value v → some v
+      (pieces 32 (drop (e + 1) l)) ≡ numThen form (pieces 32 (drop at l))
   unfolding numThen
   num-value n v k q w = rw (cut-more 32 l at e h k, ← q, w)
 

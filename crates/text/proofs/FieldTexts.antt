@@ -93,7 +93,8 @@ rank-place n (x ∷ ks) b k e = go (eqb x b) refl e (rank-place (suc n) ks b k)
         let z : k - n ≡ suc (k - suc n) = omega arith in
         (omega arith, omega arith, r .2 ∙ rw z)
 
-pub kind-starts : (ks : List ℕ) (ps : Pieces) (k : ℕ) (qs : Pieces) → numThen (rank ks) ps ≡ some k qs → (ps ≡ piece (writeKind ks k) qs) × (within 1 (length ks) k ≡ true)
+pub kind-starts : (ks : List ℕ) (ps : Pieces) (k : ℕ) (qs : Pieces) → numThen (rank ks) ps ≡ some k qs → (ps ≡ piece (writeKind ks k) qs) ×
+    (within 1 (length ks) k ≡ true)
 unfolding numThen gotOf rank writeKind
 kind-starts ks (final f) k qs e = absurd (let y : _≡_ {A = ℕ} 0 1 = cc in omega arith)
 kind-starts ks (piece [] ps) k qs e = absurd (let y : _≡_ {A = ℕ} 0 1 = cc in omega arith)

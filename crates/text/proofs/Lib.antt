@@ -1,9 +1,11 @@
+-- The laws that this crate's functions are proved by:
 pub mod Bytewise
 pub mod Cutting
 pub mod Digits
 pub mod FieldReading
 pub mod Decimal
 pub mod Stores
+-- What other crates cite: what was written is read back, and what reads is the writing of it.
 pub mod NumberTexts
 pub mod WordTexts
 pub mod PieceTexts

@@ -94,11 +94,13 @@ unfolding digits
 digits-are-written acc n [] h e = let q : acc ≡ n = cc in rw (append-nil, q)
 digits-are-written acc n (d ∷ ds) h e = go (within 48 57 d) refl (digits-are-written (acc * 10 + (d - 48)) n ds (omega arith))
   where
-    go : (t : Bool) → within 48 57 d ≡ t → (digits (acc * 10 + (d - 48)) ds ≡ Value n → writeNumber (acc * 10 + (d - 48)) ++ ds ≡ writeNumber n) → writeNumber acc ++ (d ∷ ds) ≡ writeNumber n
+    go : (t : Bool) → within 48 57 d ≡ t → (digits (acc * 10 + (d - 48)) ds ≡ Value n → writeNumber (acc * 10 + (d - 48)) ++ ds ≡ writeNumber n)
+        → writeNumber acc ++ (d ∷ ds) ≡ writeNumber n
     go true t ih =
         let b = within-bounds 48 57 d t in
         let q : 48 + (d - 48) ≡ d = omega arith in
-        let w : writeNumber (acc * 10 + (d - 48)) ≡ writeNumber acc ++ (d ∷ []) = write-snoc acc (d - 48) h (omega arith) ∙ ap (λ (x : ℕ). writeNumber acc ++ (x ∷ [])) q in
+        let w : writeNumber (acc * 10 + (d - 48)) ≡ writeNumber acc ++ (d ∷ []) = write-snoc acc (d - 48) h (omega arith) ∙ ap
+        (λ (x : ℕ). writeNumber acc ++ (x ∷ [])) q in
         let i : digits (acc * 10 + (d - 48)) ds ≡ Value n = rw (digits, t) at e in
         sym (append-assoc (writeNumber acc) (d ∷ []) ds) ∙ (rw w at (ih i))
     go false t ih = absurd (let q : Wrong ≡ Value n = rw (digits, t) at e in let y : _≡_ {A = ℕ} 0 1 = cc in omega arith)
@@ -109,7 +111,8 @@ unfolding digits
 digits-below acc n i [] h e = let q : acc ≡ n = cc in rw (add-zero, ← q) h
 digits-below acc n i (d ∷ ds) h e = go (within 48 57 d) refl (digits-below (acc * 10 + (d - 48)) n (i + 1) ds)
   where
-    go : (t : Bool) → within 48 57 d ≡ t → (acc * 10 + (d - 48) < pow (i + 1) → digits (acc * 10 + (d - 48)) ds ≡ Value n → n < pow (i + 1 + length ds)) → n < pow (i + suc (length ds))
+    go : (t : Bool) → within 48 57 d ≡ t → (acc * 10 + (d - 48) < pow (i + 1) → digits (acc * 10 + (d - 48)) ds ≡ Value n → n < pow
+        (i + 1 + length ds)) → n < pow (i + suc (length ds))
     go true t ih =
         let b = within-bounds 48 57 d t in
         let s : i + 1 + length ds ≡ i + suc (length ds) = omega arith in

@@ -1,5 +1,5 @@
 -- Texts and their pieces: a text is the pieces that it is cut into put together again, and pieces that hold no byte b are what their text is cut into.
-use mathlib.Core.Path.{_≡_, refl, sym, ap, _∙_}
+use mathlib.Core.Path.{_≡_, refl, sym, ap, subst, _∙_}
 use mathlib.Core.Bool.{Bool, true, false}
 use mathlib.Core.List.{List, [], _∷_, _++_}
 use Prim.Native.Nat.{ℕ}
@@ -75,3 +75,10 @@ pub without-joined : {x b : ℕ} {ps : Pieces} → (b ≡ x → ⊥) → Clear x
 unfolding joined
 without-joined n (clear w) = w
 without-joined n (clears w r) = without-append w (apart n (without-joined n r))
+
+-- A text that is cut into one piece holds no byte b.
+clear-final : {b : ℕ} {l : List ℕ} → Clear b (final l) → Without b l
+clear-final (clear w) = w
+
+pub without-final : {b : ℕ} (l : List ℕ) → pieces b l ≡ final l → Without b l
+without-final {b} l e = clear-final (subst (Clear b) e (clear-pieces b l))

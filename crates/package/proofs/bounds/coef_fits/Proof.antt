@@ -1,3 +1,4 @@
+-- `coef_fits` is `coefFits`.
 use borrow.Author.Tests.{lt-ltb, le-ltb}
 use Rattle.package.specs.Bounds.{coefFits}
 use Rattle.package.proofs.bounds.coef_fits.Statement.{statement}

@@ -1,3 +1,4 @@
+-- `word_fits` is `wordFits`: the length, then the letters.
 use borrow.Author.Tests.{lt-ltb, le-ltb}
 use borrow.Author.Needs.{needs}
 use Rattle.package.specs.Bounds.{wordFits}

@@ -32,14 +32,25 @@ enum-told c = search needs
 returns : tie.Need-returns
 unfolding seenRow reachRow
 returns c =
-    let a = c .before .before .before .before .before .args in
-    (row-shapeless (a .p) (a .letters) (a .m) (part (now (a .s)) (a .start) (a .len)) (a .n) _ (seen-no-row _ _ _ (c .enum-told .given .1) (c .before .before .read-row .ensures .0)), omega arith)
+    let a = c .before .before .before .before .before .args in (
+      row-shapeless (a .p) (a .letters) (a .m) (part (now (a .s)) (a .start) (a .len)) (a .n) _
+          (seen-no-row _ _ _ (c .enum-told .given .1) (c .before .before .read-row .ensures .0)),
+      omega arith,
+    )
 
 add-b : tie.Need-add-b
-add-b c = let a = c .before .before .before .before .before .before .args in omega (arith, reach-row-part (now (a .s)) (a .at) (a .e) _ _ _ _ (search needs) (search needs) (c .before .coef .given .1) (c .before .before .before .read-row .ensures .1))
+add-b c =
+    let c3 = c .before .before .before in
+    let c6 = c3 .before .before .before in
+    let a = c6 .args in
+    omega (arith, reach-row-part (now (a .s)) (a .at) (a .e) _ _ _ _ (search needs) (search needs) (c .before .coef .given .1) (c3 .read-row .ensures .1))
 
 add-c : tie.Need-add-c
-add-c c = let a = c .before .before .before .before .before .before .args in omega (arith, reach-row-part (now (a .s)) (a .at) (a .e) _ _ _ _ (search needs) (search needs) (c .before .coef .given .1) (c .before .before .before .read-row .ensures .1))
+add-c c =
+    let c3 = c .before .before .before in
+    let c6 = c3 .before .before .before in
+    let a = c6 .args in
+    omega (arith, reach-row-part (now (a .s)) (a .at) (a .e) _ _ _ _ (search needs) (search needs) (c .before .coef .given .1) (c3 .read-row .ensures .1))
 
 add-d : tie.Need-add-d
 add-d c = search needs
@@ -60,7 +71,12 @@ part-row-fits-start-2 : tie.Need-part-row-fits-start-2
 part-row-fits-start-2 c = search needs
 
 part-row-fits-end-2 : tie.Need-part-row-fits-end-2
-part-row-fits-end-2 c = let a = c .before .before .before .before .before .before .before .args in omega (arith, reach-row-part (now (a .s)) (a .at) (a .e) _ _ _ _ (search needs) (search needs) (c .before .before .coef .given .1) (c .before .before .before .before .read-row .ensures .1))
+part-row-fits-end-2 c =
+    let c2 = c .before .before in
+    let c4 = c2 .before .before in
+    let c7 = c4 .before .before .before in
+    let a = c7 .args in
+    omega (arith, reach-row-part (now (a .s)) (a .at) (a .e) _ _ _ _ (search needs) (search needs) (c2 .coef .given .1) (c4 .read-row .ensures .1))
 
 row-fits-requires : tie.Need-row-fits-requires
 row-fits-requires c κs = search needs
@@ -69,15 +85,27 @@ returns-2 : tie.Need-returns-2
 unfolding seenRow reachRow
 returns-2 c =
     let a = c .before .before .before .before .before .before .before .before .before .before .args in
-    let z = reach-row-part (now (a .s)) (a .at) (a .e) _ _ _ _ (search needs) (search needs) (c .before .before .before .before .before .coef .given .1) (c .before .before .before .before .before .before .before .read-row .ensures .1) in
-    (row-refused (a .p) (a .letters) (a .m) (part (now (a .s)) (a .start) (a .len)) (a .n) (now (a .s)) (a .at) _ _ _ _ z (seen-row _ _ _ _ _ _ (c .before .before .before .before .before .coef .given .1) (c .before .before .before .before .before .before .before .read-row .ensures .0)) (sym (simp part-end at (c .before .row-fits .ensures)) ∙ not-true _ (c .if1 .taken)), omega arith)
+    let z = reach-row-part (now (a .s)) (a .at) (a .e) _ _ _ _ (search needs) (search needs)
+    (c .before .before .before .before .before .coef .given .1) (c .before .before .before .before .before .before .before .read-row .ensures .1) in (
+      row-refused (a .p) (a .letters) (a .m) (part (now (a .s)) (a .start) (a .len)) (a .n) (now (a .s)) (a .at) _ _ _ _ z
+          (seen-row _ _ _ _ _ _ (c .before .before .before .before .before .coef .given .1)
+          (c .before .before .before .before .before .before .before .read-row .ensures .0))
+          (sym (simp part-end at (c .before .row-fits .ensures)) ∙ not-true _ (c .if1 .taken)),
+      omega arith,
+    )
 
 returns-3 : tie.Need-returns-3
 unfolding seenRow reachRow
 returns-3 c =
     let a = c .before .before .before .before .before .before .before .before .before .before .args in
-    let z = reach-row-part (now (a .s)) (a .at) (a .e) _ _ _ _ (search needs) (search needs) (c .before .before .before .before .before .coef .given .1) (c .before .before .before .before .before .before .before .read-row .ensures .1) in
-    (row-accepted (a .p) (a .letters) (a .m) (part (now (a .s)) (a .start) (a .len)) (a .n) (now (a .s)) (a .at) _ _ _ _ z (seen-row _ _ _ _ _ _ (c .before .before .before .before .before .coef .given .1) (c .before .before .before .before .before .before .before .read-row .ensures .0)) (sym (simp part-end at (c .before .row-fits .ensures)) ∙ not-false _ (c .if1 .left)), omega arith)
+    let z = reach-row-part (now (a .s)) (a .at) (a .e) _ _ _ _ (search needs) (search needs)
+    (c .before .before .before .before .before .coef .given .1) (c .before .before .before .before .before .before .before .read-row .ensures .1) in (
+      row-accepted (a .p) (a .letters) (a .m) (part (now (a .s)) (a .start) (a .len)) (a .n) (now (a .s)) (a .at) _ _ _ _ z
+          (seen-row _ _ _ _ _ _ (c .before .before .before .before .before .coef .given .1)
+          (c .before .before .before .before .before .before .before .read-row .ensures .0))
+          (sym (simp part-end at (c .before .row-fits .ensures)) ∙ not-false _ (c .if1 .left)),
+      omega arith,
+    )
 
 pub judge-row-spec : {M : Type 1} → statement M
 judge-row-spec =

@@ -33,8 +33,11 @@ is-formula-names-requires c κs = search needs
 returns-2 : tie.Need-returns-2
 unfolding seenFormula countFormula
 returns-2 c =
-    let a = c .before .before .before .before .before .before .before .before .before .args in
-    (formula-unnamed (a .p) (a .letters) (a .m) (now (a .s)) _ (c .before .before .before .before .find .ensures .0) (c .before .before .before .if1 .left) (sym (c .before .is-formula-names .ensures) ∙ not-true _ (c .if2 .taken)), (omega arith, λ i z. absurd (omega arith)))
+    let a = c .before .before .before .before .before .before .before .before .before .args in (
+      formula-unnamed (a .p) (a .letters) (a .m) (now (a .s)) _ (c .before .before .before .before .find .ensures .0)
+          (c .before .before .before .if1 .left) (sym (c .before .is-formula-names .ensures) ∙ not-true _ (c .if2 .taken)),
+      (omega arith, λ i z. absurd (omega arith)),
+    )
 
 add-read-rows : tie.Need-add-read-rows
 add-read-rows c = search needs
@@ -55,8 +58,13 @@ returns-3 : tie.Need-returns-3
 returns-3 c =
     let t = c .before .before .before .before .before .before in
     let f = t .before .before .before .before .before .before .before .before in
-    let a = f .before .before .before .before .before .args in
-    (t .read-rows .ensures .0 ∙ formula-rows (a .p) (a .letters) (a .m) (now (a .s)) _ (f .find .ensures .0) (t .before .before .before .before .before .before .before .if1 .left) (sym (t .before .before .before .before .before .is-formula-names .ensures) ∙ not-false _ (t .before .before .before .before .if2 .left)), t .read-rows .ensures .1)
+    let a = f .before .before .before .before .before .args in (
+      t .read-rows .ensures .0 ∙ formula-rows (a .p) (a .letters) (a .m) (now (a .s)) _ (f .find .ensures .0)
+          (t .before .before .before .before .before .before .before .if1 .left)
+          (sym (t .before .before .before .before .before .is-formula-names .ensures) ∙ not-false _
+          (t .before .before .before .before .if2 .left)),
+      t .read-rows .ensures .1,
+    )
 
 pub read-formula-spec : {M : Type 1} → statement M
 read-formula-spec =

@@ -31,11 +31,25 @@ enum-told-2 c = search needs
 
 returns-2 : tie.Need-returns-2
 unfolding seenRow reachRow
-returns-2 c = (row-no-word _ _ _ (seen-some _ _ _ _ _ (c .before .before .before .before .coef .given .1) (c .before .before .before .before .before .before .inner-number .ensures .0)) (seen-no-word _ _ _ (c .enum-told2 .given .1) (c .before .before .last-word .ensures .0)), omega arith)
+returns-2 c =
+    let c2 = c .before .before in
+    let c4 = c2 .before .before in
+    let c6 = c4 .before .before in (
+      row-no-word _ _ _ (seen-some _ _ _ _ _ (c4 .coef .given .1) (c6 .inner-number .ensures .0))
+          (seen-no-word _ _ _ (c .enum-told2 .given .1) (c2 .last-word .ensures .0)),
+      omega arith,
+    )
 
 returns-3 : tie.Need-returns-3
 unfolding seenRow reachRow
-returns-3 c = (row-whole _ _ _ (seen-some _ _ _ _ _ (c .before .before .before .before .before .coef .given .1) (c .before .before .before .before .before .before .before .inner-number .ensures .0)) _ (seen-word _ _ _ _ (c .before .len .given .1) (c .before .before .before .last-word .ensures .0)), len-le _ _ _ _ (c .before .len .given .1) (c .before .before .before .last-word .ensures .1))
+returns-3 c =
+    let c3 = c .before .before .before in
+    let c5 = c3 .before .before in
+    let c7 = c5 .before .before in (
+      row-whole _ _ _ (seen-some _ _ _ _ _ (c5 .coef .given .1) (c7 .inner-number .ensures .0)) _
+          (seen-word _ _ _ _ (c .before .len .given .1) (c3 .last-word .ensures .0)),
+      len-le _ _ _ _ (c .before .len .given .1) (c3 .last-word .ensures .1),
+    )
 
 pub read-row-spec : {M : Type 1} → statement M
 read-row-spec =

@@ -49,8 +49,11 @@ unfolding seenFormula countFormula
 returns c =
     let x = c .before .before .before .loop in
     let a = c .before .before .before .before .before .before .before .before .args in
-    let s = now (a .s) in
-    (rows-missing (a .p) (a .letters) (a .m) (part s (x .start) (x .len)) (rowsHeld s (x .coefs) (x .starts) (x .lens) (x .n)) (x .line) s (x .at) _ (c .before .find .ensures .0) (c .before .before .loop-test .taken) (c .if1 .taken) ∙ x .inv .5, (omega arith, λ i z. absurd (omega arith)))
+    let s = now (a .s) in (
+      rows-missing (a .p) (a .letters) (a .m) (part s (x .start) (x .len)) (rowsHeld s (x .coefs) (x .starts) (x .lens) (x .n)) (x .line) s (x .at) _
+          (c .before .find .ensures .0) (c .before .before .loop-test .taken) (c .if1 .taken) ∙ x .inv .5,
+      (omega arith, λ i z. absurd (omega arith)),
+    )
 
 judge-row-requires : tie.Need-judge-row-requires Inv-loop μ-loop
 judge-row-requires c κs = search needs
@@ -78,8 +81,11 @@ returns-2 c =
     let a = f .before .before .before .before .before .before .before .args in
     let s = now (a .s) in
     let j = seen-no-row s _ _ (c .enum-told .given .1) (c .before .before .judge-row .ensures .0) in
-    let k = rw (← rows-length s (x .coefs) (x .starts) (x .lens) (x .n)) at j in
-    (rows-wrong (a .p) (a .letters) (a .m) (part s (x .start) (x .len)) (rowsHeld s (x .coefs) (x .starts) (x .lens) (x .n)) (x .line) s (x .at) _ (f .find .ensures .0) (c .before .before .before .if1 .left) k ∙ x .inv .5, (omega arith, λ i z. absurd (omega arith)))
+    let k = rw (← rows-length s (x .coefs) (x .starts) (x .lens) (x .n)) at j in (
+      rows-wrong (a .p) (a .letters) (a .m) (part s (x .start) (x .len)) (rowsHeld s (x .coefs) (x .starts) (x .lens) (x .n)) (x .line) s (x .at) _
+          (f .find .ensures .0) (c .before .before .before .if1 .left) k ∙ x .inv .5,
+      (omega arith, λ i z. absurd (omega arith)),
+    )
 
 store-row-requires : tie.Need-store-row-requires Inv-loop μ-loop
 store-row-requires c κs =
@@ -88,11 +94,20 @@ store-row-requires c κs =
     let a = t .before .before .before .before .before .before .before .before .before .args in
     let s = now (a .s) in
     let j = seen-row s _ _ _ _ _ (c .before .before .before .before .coef .given .1) (t .judge-row .ensures .0) in
-    let r = row-room (a .p) (a .letters) (a .m) (part s (x .start) (x .len)) (x .n) _ _ _ j in
-    (omega (arith, r, x .inv .3 .0, t .before .before .before .before .before .before .before .before .before .pre .1 .0), omega (arith, r, x .inv .3 .1, t .before .before .before .before .before .before .before .before .before .pre .1 .1), omega (arith, r, x .inv .3 .2, t .before .before .before .before .before .before .before .before .before .pre .1 .2))
+    let r = row-room (a .p) (a .letters) (a .m) (part s (x .start) (x .len)) (x .n) _ _ _ j in (
+      omega (arith, r, x .inv .3 .0, t .before .before .before .before .before .before .before .before .before .pre .1 .0),
+      omega
+          (arith, r, x .inv .3 .1, t .before .before .before .before .before .before .before .before .before .pre .1 .1),
+      omega
+          (arith, r, x .inv .3 .2, t .before .before .before .before .before .before .before .before .before .pre .1 .2),
+    )
 
 add-n : tie.Need-add-n Inv-loop μ-loop
-add-n c = let x = c .before .before .before .before .before .before .before .before .before .before .before .before .before .before .before .before .before .loop in omega (arith, x .inv .2, c .before .before .before .before .before .before .before .before .before .before .before .before .before .before .before .before .before .before .before .before .before .before .pre .0 .1)
+add-n c =
+    let c17 = c .before .before .before .before .before .before .before .before .before .before .before .before .before .before .before .before .before in
+    let c22 = c17 .before .before .before .before .before in
+    let x = c17 .loop in
+    omega (arith, x .inv .2, c22 .pre .0 .1)
 
 add-at : tie.Need-add-at Inv-loop μ-loop
 add-at c = search needs
@@ -122,8 +137,10 @@ loop-again c =
       omega (arith, r),
       (st .store-row .kept .0 ∙ x .inv .3 .0, st .store-row .kept .1 .0 ∙ x .inv .3 .1, st .store-row .kept .1 .1 .0 ∙ x .inv .3 .2),
       b,
-      rows-again (a .p) (a .letters) (a .m) (part s (x .start) (x .len)) s (x .coefs) (x .starts) (x .lens) (x .n) (x .line) (x .at) _ _ _ _ _ _ _ (st .store-row .ensures .0) (st .store-row .ensures .1 .0) (st .store-row .ensures .1 .1) u v w (f .find .ensures .0) (t .before .if1 .left) j ∙ x .inv .5,
-      rows-inside (a .p) (a .letters) (a .m) (part s (x .start) (x .len)) s (x .coefs) (x .starts) (x .lens) (x .n) (x .line) (x .at) 0 _ _ _ _ _ _ (st .store-row .ensures .0) (st .store-row .ensures .1 .0) (st .store-row .ensures .1 .1) u v w b (x .inv .6),
+      rows-again (a .p) (a .letters) (a .m) (part s (x .start) (x .len)) s (x .coefs) (x .starts) (x .lens) (x .n) (x .line) (x .at) _ _ _ _ _ _ _
+          (st .store-row .ensures .0) (st .store-row .ensures .1 .0) (st .store-row .ensures .1 .1) u v w (f .find .ensures .0) (t .before .if1 .left) j ∙ x .inv .5,
+      rows-inside (a .p) (a .letters) (a .m) (part s (x .start) (x .len)) s (x .coefs) (x .starts) (x .lens) (x .n) (x .line) (x .at) 0 _ _ _ _ _ _
+          (st .store-row .ensures .0) (st .store-row .ensures .1 .0) (st .store-row .ensures .1 .1) u v w b (x .inv .6),
     )
 
 same-length-7 : tie.Need-same-length-7 Inv-loop μ-loop
@@ -140,8 +157,11 @@ unfolding seenFormula countFormula
 returns-3 c =
     let x = c .before .loop in
     let a = c .before .before .before .before .before .before .args in
-    let s = now (a .s) in
-    (rows-end (a .p) (a .letters) (a .m) (part s (x .start) (x .len)) (rowsHeld s (x .coefs) (x .starts) (x .lens) (x .n)) (x .line) s (x .at) (c .loop-test .left) ∙ x .inv .5, (x .inv .2, x .inv .6))
+    let s = now (a .s) in (
+      rows-end (a .p) (a .letters) (a .m) (part s (x .start) (x .len)) (rowsHeld s (x .coefs) (x .starts) (x .lens) (x .n)) (x .line) s (x .at)
+          (c .loop-test .left) ∙ x .inv .5,
+      (x .inv .2, x .inv .6),
+    )
 
 pub read-rows-spec : {M : Type 1} → statement M
 read-rows-spec =

@@ -59,8 +59,16 @@ loop-again c =
     let x = c .before .before .loop in
     let a = c .before .before .before .before .before .before .before .before .args in
     let q = onward-next (slotsHeld (a .h) (now (a .kinds)) (now (a .items)) (a .n)) (x .m) (x .j) _ (x .inv .4) (c .skip-terms .ensures .0) in
-    let l : x .j < length (x .firsts) = omega (arith, x .inv .3, x .inv .2, c .before .before .before .before .before .before .before .before .pre .0 .0, c .before .before .before .before .before .before .before .before .pre .0 .1, c .before .loop-test .taken) in
-    (search needs, search needs, search needs, search needs, q .1, stored-next (slotsHeld (a .h) (now (a .kinds)) (now (a .items)) (a .n)) (x .firsts) _ (x .j) _ refl l (q .0) (x .inv .5))
+    let l : x .j < length (x .firsts) = omega
+    (arith, x .inv .3, x .inv .2, c .before .before .before .before .before .before .before .before .pre .0 .0, c .before .before .before .before .before .before .before .before .pre .0 .1, c .before .loop-test .taken) in (
+      search needs,
+      search needs,
+      search needs,
+      search needs,
+      q .1,
+      stored-next (slotsHeld (a .h) (now (a .kinds)) (now (a .items)) (a .n))
+          (x .firsts) _ (x .j) _ refl l (q .0) (x .inv .5),
+    )
 
 same-length : tie.Need-same-length Inv-loop μ-loop
 same-length c = search needs

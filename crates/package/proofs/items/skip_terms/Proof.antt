@@ -40,8 +40,11 @@ returns c =
     let x = c .before .before .before .before .before .loop in
     let a = c .before .before .before .before .before .before .before .before .args in
     let k = slots-length (a .h) (now (a .kinds)) (now (a .items)) (a .n) in
-    let q = slots-at (a .h) (now (a .kinds)) (now (a .items)) (a .n) (x .i) (c .before .before .before .before .loop-test .taken) in
-    (sym (first-here (a .j) (slotsHeld (a .h) (now (a .kinds)) (now (a .items)) (a .n)) (x .i) (omega (arith, c .before .before .before .before .loop-test .taken)) (omega (arith, c .before .slot-of .ensures, c .if1 .taken))) ∙ x .inv .1, search needs)
+    let q = slots-at (a .h) (now (a .kinds)) (now (a .items)) (a .n) (x .i) (c .before .before .before .before .loop-test .taken) in (
+      sym (first-here (a .j) (slotsHeld (a .h) (now (a .kinds)) (now (a .items)) (a .n)) (x .i)
+          (omega (arith, c .before .before .before .before .loop-test .taken)) (omega (arith, c .before .slot-of .ensures, c .if1 .taken))) ∙ x .inv .1,
+      search needs,
+    )
 
 add-i : tie.Need-add-i Inv-loop μ-loop
 add-i c = search needs
@@ -54,14 +57,20 @@ loop-again c =
     let x = c .before .before .before .before .before .loop in
     let a = c .before .before .before .before .before .before .before .before .args in
     let k = slots-length (a .h) (now (a .kinds)) (now (a .items)) (a .n) in
-    let q = slots-at (a .h) (now (a .kinds)) (now (a .items)) (a .n) (x .i) (c .before .before .before .before .loop-test .taken) in
-    (search needs, first-later (a .j) (slotsHeld (a .h) (now (a .kinds)) (now (a .items)) (a .n)) (x .i) (omega (arith, c .before .before .before .before .loop-test .taken)) (omega (arith, c .before .slot-of .ensures, c .if1 .left)) ∙ x .inv .1)
+    let q = slots-at (a .h) (now (a .kinds)) (now (a .items)) (a .n) (x .i) (c .before .before .before .before .loop-test .taken) in (
+      search needs,
+      first-later (a .j) (slotsHeld (a .h) (now (a .kinds)) (now (a .items)) (a .n)) (x .i)
+          (omega (arith, c .before .before .before .before .loop-test .taken)) (omega (arith, c .before .slot-of .ensures, c .if1 .left)) ∙ x .inv .1,
+    )
 
 returns-2 : tie.Need-returns-2 Inv-loop μ-loop
 returns-2 c =
     let x = c .before .loop in
-    let a = c .before .before .before .before .args in
-    (sym (first-end (a .j) (slotsHeld (a .h) (now (a .kinds)) (now (a .items)) (a .n)) (x .i) (omega (arith, slots-length (a .h) (now (a .kinds)) (now (a .items)) (a .n), c .loop-test .left))) ∙ x .inv .1, search needs)
+    let a = c .before .before .before .before .args in (
+      sym (first-end (a .j) (slotsHeld (a .h) (now (a .kinds)) (now (a .items)) (a .n)) (x .i)
+          (omega (arith, slots-length (a .h) (now (a .kinds)) (now (a .items)) (a .n), c .loop-test .left))) ∙ x .inv .1,
+      search needs,
+    )
 
 pub skip-terms-spec : {M : Type 1} → statement M
 skip-terms-spec =

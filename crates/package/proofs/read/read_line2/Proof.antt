@@ -14,7 +14,10 @@ find-requires c κs = search needs
 
 returns : tie.Need-returns
 unfolding seenAll countAll gensAll basisAll spotAll lineAll
-returns c = (line2-missing _ _ _ _ (c .before .find .ensures .0) (c .if1 .taken), ((omega arith, λ i z. absurd (omega arith)), ((omega arith, omega arith), (omega arith, omega arith))))
+returns c = (
+  line2-missing _ _ _ _ (c .before .find .ensures .0) (c .if1 .taken),
+  ((omega arith, λ i z. absurd (omega arith)), ((omega arith, omega arith), (omega arith, omega arith))),
+)
 
 sub-read-head : tie.Need-sub-read-head
 sub-read-head c = search needs
@@ -36,7 +39,13 @@ enum-told c = search needs
 
 returns-2 : tie.Need-returns-2
 unfolding seenAll countAll gensAll basisAll spotAll lineAll
-returns-2 c = (line2-wrong _ _ _ _ (c .before .before .before .before .before .find .ensures .0) (c .before .before .before .before .if1 .left) (seen-no-head _ _ (c .enum-told .given .1) (c .before .before .read-head .ensures)), ((omega arith, λ i z. absurd (omega arith)), ((omega arith, omega arith), (omega arith, omega arith))))
+returns-2 c =
+    let c2 = c .before .before in
+    let c4 = c2 .before .before in
+    let c5 = c4 .before in (
+      line2-wrong _ _ _ _ (c5 .find .ensures .0) (c4 .if1 .left) (seen-no-head _ _ (c .enum-told .given .1) (c2 .read-head .ensures)),
+      ((omega arith, λ i z. absurd (omega arith)), ((omega arith, omega arith), (omega arith, omega arith))),
+    )
 
 prime-fits-requires : tie.Need-prime-fits-requires
 prime-fits-requires c κs = search needs
@@ -44,8 +53,12 @@ prime-fits-requires c κs = search needs
 returns-3 : tie.Need-returns-3
 unfolding seenAll countAll gensAll basisAll spotAll lineAll
 returns-3 c =
-    let f = c .before .before .before .before .before .before .before .before in
-    (line2-prime _ _ _ _ (f .find .ensures .0) (c .before .before .before .before .before .before .before .if1 .left) _ (seen-head _ _ _ _ _ _ (c .before .before .before .p .given .1) (c .before .before .before .before .before .read-head .ensures)) (sym (c .before .prime-fits .ensures) ∙ not-true _ (c .if2 .taken)), ((omega arith, λ i z. absurd (omega arith)), ((omega arith, omega arith), (omega arith, omega arith))))
+    let f = c .before .before .before .before .before .before .before .before in (
+      line2-prime _ _ _ _ (f .find .ensures .0) (c .before .before .before .before .before .before .before .if1 .left) _
+          (seen-head _ _ _ _ _ _ (c .before .before .before .p .given .1) (c .before .before .before .before .before .read-head .ensures))
+          (sym (c .before .prime-fits .ensures) ∙ not-true _ (c .if2 .taken)),
+      ((omega arith, λ i z. absurd (omega arith)), ((omega arith, omega arith), (omega arith, omega arith))),
+    )
 
 counts-fit-requires : tie.Need-counts-fit-requires
 counts-fit-requires c κs = search needs
@@ -53,16 +66,25 @@ counts-fit-requires c κs = search needs
 returns-4 : tie.Need-returns-4
 unfolding seenAll countAll gensAll basisAll spotAll lineAll
 returns-4 c =
-    let f = c .before .before .before .before .before .before .before .before .before .before in
-    (line2-counts _ _ _ _ (f .find .ensures .0) (c .before .before .before .before .before .before .before .before .before .if1 .left) _ (seen-head _ _ _ _ _ _ (c .before .before .before .before .before .p .given .1) (c .before .before .before .before .before .before .before .read-head .ensures)) (sym (c .before .before .before .prime-fits .ensures) ∙ not-false _ (c .before .before .if2 .left)) (sym (c .before .counts-fit .ensures) ∙ not-true _ (c .if3 .taken)), ((omega arith, λ i z. absurd (omega arith)), ((omega arith, omega arith), (omega arith, omega arith))))
+    let f = c .before .before .before .before .before .before .before .before .before .before in (
+      line2-counts _ _ _ _ (f .find .ensures .0) (c .before .before .before .before .before .before .before .before .before .if1 .left) _
+          (seen-head _ _ _ _ _ _ (c .before .before .before .before .before .p .given .1)
+          (c .before .before .before .before .before .before .before .read-head .ensures))
+          (sym (c .before .before .before .prime-fits .ensures) ∙ not-false _ (c .before .before .if2 .left))
+          (sym (c .before .counts-fit .ensures) ∙ not-true _ (c .if3 .taken)),
+      ((omega arith, λ i z. absurd (omega arith)), ((omega arith, omega arith), (omega arith, omega arith))),
+    )
 
 add-read-line3 : tie.Need-add-read-line3
 add-read-line3 c = search needs
 
 read-line3-requires : tie.Need-read-line3-requires
 read-line3-requires c κs =
-    let p = c .before .before .before .before .before .before .before .before .before .before .before .before .before .before .before .before .before .before .before .before .before .before .pre in
-    (counts-bounds _ (sym (c .before .before .before .before .before .before .counts-fit .ensures) ∙ not-false _ (c .before .before .before .before .before .if3 .left)), ((omega (arith, c .before .before .before .before .before .before .before .before .before .before .before .before .before .before .if1 .left), p .0 .1, p .0 .2), p .1))
+    let p = c .before .before .before .before .before .before .before .before .before .before .before .before .before .before .before .before .before .before .before .before .before .before .pre in (
+      counts-bounds _ (sym (c .before .before .before .before .before .before .counts-fit .ensures) ∙ not-false _
+          (c .before .before .before .before .before .if3 .left)),
+      ((omega (arith, c .before .before .before .before .before .before .before .before .before .before .before .before .before .before .if1 .left), p .0 .1, p .0 .2), p .1),
+    )
 
 same-length : tie.Need-same-length
 same-length c = search needs
@@ -84,8 +106,14 @@ returns-5 c =
     let t = c .before .before .before .before .before .before .before .before .before .before in
     let f = t .before .before .before .before .before .before .before .before .before .before .before .before .before .before .before .before in (
       t .read-line3 .ensures .0
-          ∙ line2-right _ _ _ _ (f .find .ensures .0) (t .before .before .before .before .before .before .before .before .before .before .before .before .before .before .before .if1 .left) _ (seen-head _ _ _ _ _ _ (t .before .before .before .before .before .before .before .before .before .before .before .p .given .1) (t .before .before .before .before .before .before .before .before .before .before .before .before .before .read-head .ensures))
-          (sym (t .before .before .before .before .before .before .before .before .before .prime-fits .ensures) ∙ not-false _ (t .before .before .before .before .before .before .before .before .if2 .left)) (sym (t .before .before .before .before .before .before .before .counts-fit .ensures) ∙ not-false _ (t .before .before .before .before .before .before .if3 .left)),
+          ∙ line2-right _ _ _ _ (f .find .ensures .0)
+          (t .before .before .before .before .before .before .before .before .before .before .before .before .before .before .before .if1 .left) _
+          (seen-head _ _ _ _ _ _ (t .before .before .before .before .before .before .before .before .before .before .before .p .given .1)
+          (t .before .before .before .before .before .before .before .before .before .before .before .before .before .read-head .ensures))
+          (sym (t .before .before .before .before .before .before .before .before .before .prime-fits .ensures) ∙ not-false _
+          (t .before .before .before .before .before .before .before .before .if2 .left))
+          (sym (t .before .before .before .before .before .before .before .counts-fit .ensures) ∙ not-false _
+          (t .before .before .before .before .before .before .if3 .left)),
       t .read-line3 .ensures .1,
     )
 

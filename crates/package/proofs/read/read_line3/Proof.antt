@@ -13,7 +13,10 @@ find-requires c κs = search needs
 
 returns : tie.Need-returns
 unfolding seenAll countAll gensAll basisAll spotAll lineAll
-returns c = (line3-missing _ _ _ _ (c .before .find .ensures .0) _ (c .if1 .taken), ((omega arith, λ i z. absurd (omega arith)), ((omega arith, omega arith), (omega arith, omega arith))))
+returns c = (
+  line3-missing _ _ _ _ (c .before .find .ensures .0) _ (c .if1 .taken),
+  ((omega arith, λ i z. absurd (omega arith)), ((omega arith, omega arith), (omega arith, omega arith))),
+)
 
 sub-is-term-names : tie.Need-sub-is-term-names
 sub-is-term-names c = search needs
@@ -29,7 +32,12 @@ is-term-names-requires c κs = search needs
 
 returns-2 : tie.Need-returns-2
 unfolding seenAll countAll gensAll basisAll spotAll lineAll
-returns-2 c = (line3-wrong _ _ _ _ (c .before .before .before .before .find .ensures .0) (c .before .before .before .if1 .left) _ (sym (c .before .is-term-names .ensures) ∙ not-true _ (c .if2 .taken)), ((omega arith, λ i z. absurd (omega arith)), ((omega arith, omega arith), (omega arith, omega arith))))
+returns-2 c =
+    let c3 = c .before .before .before in
+    let c4 = c3 .before in (
+      line3-wrong _ _ _ _ (c4 .find .ensures .0) (c3 .if1 .left) _ (sym (c .before .is-term-names .ensures) ∙ not-true _ (c .if2 .taken)),
+      ((omega arith, λ i z. absurd (omega arith)), ((omega arith, omega arith), (omega arith, omega arith))),
+    )
 
 add-read-lower : tie.Need-add-read-lower
 add-read-lower c = search needs
@@ -54,8 +62,14 @@ same-length-5 c = search needs
 
 returns-3 : tie.Need-returns-3
 returns-3 c =
-    let t = c .before .before .before .before .before .before .before .before .before .before in
-    (t .read-lower .ensures .0 ∙ line3-right _ _ _ _ (t .before .before .before .before .before .before .before .before .before .before .find .ensures .0) (t .before .before .before .before .before .before .before .before .before .if1 .left) _ (sym (t .before .before .before .before .before .before .before .is-term-names .ensures) ∙ not-false _ (t .before .before .before .before .before .before .if2 .left)), t .read-lower .ensures .1)
+    let t = c .before .before .before .before .before .before .before .before .before .before in (
+      t .read-lower .ensures .0 ∙ line3-right _ _ _ _
+          (t .before .before .before .before .before .before .before .before .before .before .find .ensures .0)
+          (t .before .before .before .before .before .before .before .before .before .if1 .left) _
+          (sym (t .before .before .before .before .before .before .before .is-term-names .ensures) ∙ not-false _
+          (t .before .before .before .before .before .before .if2 .left)),
+      t .read-lower .ensures .1,
+    )
 
 pub read-line3-spec : {M : Type 1} → statement M
 read-line3-spec =

@@ -17,7 +17,11 @@ find-requires c κs = search needs
 
 returns-2 : tie.Need-returns-2
 unfolding seenAll countAll gensAll basisAll spotAll lineAll
-returns-2 c = (line1-missing _ _ 0 _ (c .before .find .ensures .0) (c .if2 .taken) ∙ package-lines _ _ (c .before .before .if1 .left), ((omega arith, λ i z. absurd (omega arith)), ((omega arith, omega arith), (omega arith, omega arith))))
+returns-2 c =
+    let c2 = c .before .before in (
+      line1-missing _ _ 0 _ (c .before .find .ensures .0) (c .if2 .taken) ∙ package-lines _ _ (c2 .if1 .left),
+      ((omega arith, λ i z. absurd (omega arith)), ((omega arith, omega arith), (omega arith, omega arith))),
+    )
 
 sub-is-head-names : tie.Need-sub-is-head-names
 sub-is-head-names c = search needs
@@ -33,7 +37,14 @@ is-head-names-requires c κs = search needs
 
 returns-3 : tie.Need-returns-3
 unfolding seenAll countAll gensAll basisAll spotAll lineAll
-returns-3 c = (line1-wrong _ _ 0 _ (c .before .before .before .before .find .ensures .0) (c .before .before .before .if2 .left) (sym (c .before .is-head-names .ensures) ∙ not-true _ (c .if3 .taken)) ∙ package-lines _ _ (c .before .before .before .before .before .if1 .left), ((omega arith, λ i z. absurd (omega arith)), ((omega arith, omega arith), (omega arith, omega arith))))
+returns-3 c =
+    let c3 = c .before .before .before in
+    let c4 = c3 .before in
+    let c5 = c4 .before in (
+      line1-wrong _ _ 0 _ (c4 .find .ensures .0) (c3 .if2 .left) (sym (c .before .is-head-names .ensures) ∙ not-true _ (c .if3 .taken))
+          ∙ package-lines _ _ (c5 .if1 .left),
+      ((omega arith, λ i z. absurd (omega arith)), ((omega arith, omega arith), (omega arith, omega arith))),
+    )
 
 add-read-line2 : tie.Need-add-read-line2
 add-read-line2 c = search needs
@@ -60,7 +71,10 @@ returns-4 : tie.Need-returns-4
 returns-4 c =
     let t = c .before .before .before .before .before .before .before .before .before .before in (
       t .read-line2 .ensures .0
-          ∙ line1-right _ _ 0 _ (t .before .before .before .before .before .before .before .before .before .before .find .ensures .0) (t .before .before .before .before .before .before .before .before .before .if2 .left) (sym (t .before .before .before .before .before .before .before .is-head-names .ensures) ∙ not-false _ (t .before .before .before .before .before .before .if3 .left))
+          ∙ line1-right _ _ 0 _ (t .before .before .before .before .before .before .before .before .before .before .find .ensures .0)
+          (t .before .before .before .before .before .before .before .before .before .if2 .left)
+          (sym (t .before .before .before .before .before .before .before .is-head-names .ensures) ∙ not-false _
+          (t .before .before .before .before .before .before .if3 .left))
           ∙ package-lines _ _ (t .before .before .before .before .before .before .before .before .before .before .before .if1 .left),
       t .read-line2 .ensures .1,
     )

@@ -17,7 +17,8 @@ enum-known-t-2 c = search needs
 
 judge-sums-requires : tie.Need-judge-sums-requires
 judge-sums-requires c κs =
-    let z = spot-le _ _ _ _ _ (c .before .t2 .given .1) (c .before .before .before .before .before .before .before .before .before .before .before .before .before .read-terms .ensures .1 .1) in
+    let z = spot-le _ _ _ _ _ (c .before .t2 .given .1)
+    (c .before .before .before .before .before .before .before .before .before .before .before .before .before .read-terms .ensures .1 .1) in
     let p = c .before .before .before .before .before .before .before .before .before .before .before .before .before .before .before .before .before .before .before .before .before .before .before .before .before .pre in
     (p .0 .0, (z .0, z .1, p .1 .0 .1))
 
@@ -44,7 +45,11 @@ same-length-5 c = search needs
 
 returns : tie.Need-returns
 unfolding seenAll countAll gensAll basisAll spotAll lineAll
-returns c = (lower-refused _ _ _ _ _ (seen-refused _ _ _ _ _ _ _ _ _ _ (c .before .t .given .1) (c .before .before .before .before .before .before .before .before .before .before .before .before .before .read-terms .ensures .0)), ((omega arith, λ i z. absurd (omega arith)), ((omega arith, omega arith), (omega arith, omega arith))))
+returns c =
+    let c13 = c .before .before .before .before .before .before .before .before .before .before .before .before .before in (
+      lower-refused _ _ _ _ _ (seen-refused _ _ _ _ _ _ _ _ _ _ (c .before .t .given .1) (c13 .read-terms .ensures .0)),
+      ((omega arith, λ i z. absurd (omega arith)), ((omega arith, omega arith), (omega arith, omega arith))),
+    )
 
 same-length-6 : tie.Need-same-length-6
 same-length-6 c = search needs
@@ -64,8 +69,11 @@ same-length-10 c = search needs
 returns-2 : tie.Need-returns-2
 unfolding seenAll countAll gensAll basisAll spotAll lineAll
 returns-2 c =
-    let g = c .before .before .before .before .before .t2 .given .1 in
-    (lower-fault _ _ _ _ _ _ (seen-names _ _ _ _ _ _ _ _ _ _ _ g (c .before .before .before .before .before .before .before .before .before .before .before .before .before .before .before .before .before .read-terms .ensures .0)) _ _ (seen-fault _ _ _ _ (c .before .u .given .1) (c .before .before .before .judge-sums .ensures)), ((omega arith, λ i z. absurd (omega arith)), ((omega arith, omega arith), (omega arith, omega arith))))
+    let g = c .before .before .before .before .before .t2 .given .1 in (
+      lower-fault _ _ _ _ _ _ (seen-names _ _ _ _ _ _ _ _ _ _ _ g
+          (c .before .before .before .before .before .before .before .before .before .before .before .before .before .before .before .before .before .read-terms .ensures .0)) _ _ (seen-fault _ _ _ _ (c .before .u .given .1) (c .before .before .before .judge-sums .ensures)),
+      ((omega arith, λ i z. absurd (omega arith)), ((omega arith, omega arith), (omega arith, omega arith))),
+    )
 
 same-length-11 : tie.Need-same-length-11
 same-length-11 c = search needs

@@ -1,3 +1,4 @@
+-- `ofs_of` is `ofs`.
 use borrow.Author.Tests.{eq-eqb, ne-eqb}
 use Rattle.package.specs.Sums.{ofs}
 use Rattle.package.proofs.sum_lines.ofs_of.Statement.{statement}

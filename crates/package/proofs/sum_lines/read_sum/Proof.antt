@@ -1,3 +1,4 @@
+-- `read_sum` reads what `sumForm` gives, field by field.
 use native.Mathlib.Omega.{arith}
 use borrow.Author.Needs.{needs}
 use Rattle.package.proofs.SumLines.{sum-kind, sum-item, sum-coef, sum-left, sum-of, sum-right, sum-whole}
@@ -33,7 +34,14 @@ enum-told-2 c = search needs
 
 returns-2 : tie.Need-returns-2
 unfolding seenSum reachLeft reachRight
-returns-2 c = (sum-item _ _ _ (seen-some _ _ _ _ _ (c .before .before .before .before .kind .given .1) (c .before .before .before .before .before .before .inner-rank .ensures .0)) (seen-none _ _ _ (c .enum-told2 .given .1) (c .before .before .inner-number .ensures .0)), (omega arith, omega arith))
+returns-2 c =
+    let c2 = c .before .before in
+    let c4 = c2 .before .before in
+    let c6 = c4 .before .before in (
+      sum-item _ _ _ (seen-some _ _ _ _ _ (c4 .kind .given .1) (c6 .inner-rank .ensures .0))
+          (seen-none _ _ _ (c .enum-told2 .given .1) (c2 .inner-number .ensures .0)),
+      (omega arith, omega arith),
+    )
 
 inner-number-requires-2 : tie.Need-inner-number-requires-2
 inner-number-requires-2 c κs = next-le _ _ _ _ (c .before .item .given .1) (c .before .before .before .inner-number .ensures .1)
@@ -46,7 +54,17 @@ enum-told-3 c = search needs
 
 returns-3 : tie.Need-returns-3
 unfolding seenSum reachLeft reachRight
-returns-3 c = (sum-coef _ _ _ (seen-some _ _ _ _ _ (c .before .before .before .before .before .before .before .before .kind .given .1) (c .before .before .before .before .before .before .before .before .before .before .inner-rank .ensures .0)) _ _ (seen-some _ _ _ _ _ (c .before .before .before .before .item .given .1) (c .before .before .before .before .before .before .inner-number .ensures .0)) (seen-none _ _ _ (c .enum-told3 .given .1) (c .before .before .inner-number2 .ensures .0)), (omega arith, omega arith))
+returns-3 c =
+    let c2 = c .before .before in
+    let c4 = c2 .before .before in
+    let c6 = c4 .before .before in
+    let c8 = c6 .before .before in
+    let c10 = c8 .before .before in (
+      sum-coef _ _ _ (seen-some _ _ _ _ _ (c8 .kind .given .1) (c10 .inner-rank .ensures .0)) _ _
+          (seen-some _ _ _ _ _ (c4 .item .given .1) (c6 .inner-number .ensures .0))
+          (seen-none _ _ _ (c .enum-told3 .given .1) (c2 .inner-number2 .ensures .0)),
+      (omega arith, omega arith),
+    )
 
 inner-word-requires : tie.Need-inner-word-requires
 inner-word-requires c κs = next-le _ _ _ _ (c .before .coef .given .1) (c .before .before .before .inner-number2 .ensures .1)
@@ -59,7 +77,20 @@ enum-told-4 c = search needs
 
 returns-4 : tie.Need-returns-4
 unfolding seenSum reachLeft reachRight
-returns-4 c = (sum-left _ _ _ (seen-some _ _ _ _ _ (c .before .before .before .before .before .before .before .before .before .before .before .before .kind .given .1) (c .before .before .before .before .before .before .before .before .before .before .before .before .before .before .inner-rank .ensures .0)) _ _ (seen-some _ _ _ _ _ (c .before .before .before .before .before .before .before .before .item .given .1) (c .before .before .before .before .before .before .before .before .before .before .inner-number .ensures .0)) _ _ (seen-some _ _ _ _ _ (c .before .before .before .before .coef .given .1) (c .before .before .before .before .before .before .inner-number2 .ensures .0)) (seen-none-word _ _ _ _ (c .enum-told4 .given .1) (c .before .before .inner-word .ensures .0)), (omega arith, omega arith))
+returns-4 c =
+    let c2 = c .before .before in
+    let c4 = c2 .before .before in
+    let c6 = c4 .before .before in
+    let c8 = c6 .before .before in
+    let c10 = c8 .before .before in
+    let c12 = c10 .before .before in
+    let c14 = c12 .before .before in (
+      sum-left _ _ _ (seen-some _ _ _ _ _ (c12 .kind .given .1) (c14 .inner-rank .ensures .0)) _ _
+          (seen-some _ _ _ _ _ (c8 .item .given .1) (c10 .inner-number .ensures .0)) _ _
+          (seen-some _ _ _ _ _ (c4 .coef .given .1) (c6 .inner-number2 .ensures .0))
+          (seen-none-word _ _ _ _ (c .enum-told4 .given .1) (c2 .inner-word .ensures .0)),
+      (omega arith, omega arith),
+    )
 
 inner-number-requires-3 : tie.Need-inner-number-requires-3
 inner-number-requires-3 c κs = next-word-le _ _ _ _ (c .before .left-len .given .1) (c .before .before .before .inner-word .ensures .1 .0)
@@ -72,7 +103,23 @@ enum-told-5 c = search needs
 
 returns-5 : tie.Need-returns-5
 unfolding seenSum reachLeft reachRight
-returns-5 c = (sum-of _ _ _ (seen-some _ _ _ _ _ (c .before .before .before .before .before .before .before .before .before .before .before .before .before .before .before .before .kind .given .1) (c .before .before .before .before .before .before .before .before .before .before .before .before .before .before .before .before .before .before .inner-rank .ensures .0)) _ _ (seen-some _ _ _ _ _ (c .before .before .before .before .before .before .before .before .before .before .before .before .item .given .1) (c .before .before .before .before .before .before .before .before .before .before .before .before .before .before .inner-number .ensures .0)) _ _ (seen-some _ _ _ _ _ (c .before .before .before .before .before .before .before .before .coef .given .1) (c .before .before .before .before .before .before .before .before .before .before .inner-number2 .ensures .0)) _ _ (seen-some-word _ _ _ _ _ _ (c .before .before .before .before .left-len .given .1) (c .before .before .before .before .before .before .inner-word .ensures .0)) (seen-none _ _ _ (c .enum-told5 .given .1) (c .before .before .inner-number3 .ensures .0)), (omega arith, omega arith))
+returns-5 c =
+    let c2 = c .before .before in
+    let c4 = c2 .before .before in
+    let c6 = c4 .before .before in
+    let c8 = c6 .before .before in
+    let c10 = c8 .before .before in
+    let c12 = c10 .before .before in
+    let c14 = c12 .before .before in
+    let c16 = c14 .before .before in
+    let c18 = c16 .before .before in (
+      sum-of _ _ _ (seen-some _ _ _ _ _ (c16 .kind .given .1) (c18 .inner-rank .ensures .0)) _ _
+          (seen-some _ _ _ _ _ (c12 .item .given .1) (c14 .inner-number .ensures .0)) _ _
+          (seen-some _ _ _ _ _ (c8 .coef .given .1) (c10 .inner-number2 .ensures .0)) _ _
+          (seen-some-word _ _ _ _ _ _ (c4 .left-len .given .1) (c6 .inner-word .ensures .0))
+          (seen-none _ _ _ (c .enum-told5 .given .1) (c2 .inner-number3 .ensures .0)),
+      (omega arith, omega arith),
+    )
 
 last-word-requires : tie.Need-last-word-requires
 last-word-requires c κs = next-le _ _ _ _ (c .before .of .given .1) (c .before .before .before .inner-number3 .ensures .1)
@@ -85,11 +132,49 @@ enum-told-6 c = search needs
 
 returns-6 : tie.Need-returns-6
 unfolding seenSum reachLeft reachRight
-returns-6 c = (sum-right _ _ _ (seen-some _ _ _ _ _ (c .before .before .before .before .before .before .before .before .before .before .before .before .before .before .before .before .before .before .before .before .kind .given .1) (c .before .before .before .before .before .before .before .before .before .before .before .before .before .before .before .before .before .before .before .before .before .before .inner-rank .ensures .0)) _ _ (seen-some _ _ _ _ _ (c .before .before .before .before .before .before .before .before .before .before .before .before .before .before .before .before .item .given .1) (c .before .before .before .before .before .before .before .before .before .before .before .before .before .before .before .before .before .before .inner-number .ensures .0)) _ _ (seen-some _ _ _ _ _ (c .before .before .before .before .before .before .before .before .before .before .before .before .coef .given .1) (c .before .before .before .before .before .before .before .before .before .before .before .before .before .before .inner-number2 .ensures .0)) _ _ (seen-some-word _ _ _ _ _ _ (c .before .before .before .before .before .before .before .before .left-len .given .1) (c .before .before .before .before .before .before .before .before .before .before .inner-word .ensures .0)) _ _ (seen-some _ _ _ _ _ (c .before .before .before .before .of .given .1) (c .before .before .before .before .before .before .inner-number3 .ensures .0)) (seen-no-word _ _ _ (c .enum-told6 .given .1) (c .before .before .last-word .ensures .0)), (omega arith, omega arith))
+returns-6 c =
+    let c2 = c .before .before in
+    let c4 = c2 .before .before in
+    let c6 = c4 .before .before in
+    let c8 = c6 .before .before in
+    let c10 = c8 .before .before in
+    let c12 = c10 .before .before in
+    let c14 = c12 .before .before in
+    let c16 = c14 .before .before in
+    let c18 = c16 .before .before in
+    let c20 = c18 .before .before in
+    let c22 = c20 .before .before in (
+      sum-right _ _ _ (seen-some _ _ _ _ _ (c20 .kind .given .1) (c22 .inner-rank .ensures .0)) _ _
+          (seen-some _ _ _ _ _ (c16 .item .given .1) (c18 .inner-number .ensures .0)) _ _
+          (seen-some _ _ _ _ _ (c12 .coef .given .1) (c14 .inner-number2 .ensures .0)) _ _
+          (seen-some-word _ _ _ _ _ _ (c8 .left-len .given .1) (c10 .inner-word .ensures .0)) _ _
+          (seen-some _ _ _ _ _ (c4 .of .given .1) (c6 .inner-number3 .ensures .0))
+          (seen-no-word _ _ _ (c .enum-told6 .given .1) (c2 .last-word .ensures .0)),
+      (omega arith, omega arith),
+    )
 
 returns-7 : tie.Need-returns-7
 unfolding seenSum reachLeft reachRight
-returns-7 c = (sum-whole _ _ _ (seen-some _ _ _ _ _ (c .before .before .before .before .before .before .before .before .before .before .before .before .before .before .before .before .before .before .before .before .before .kind .given .1) (c .before .before .before .before .before .before .before .before .before .before .before .before .before .before .before .before .before .before .before .before .before .before .before .inner-rank .ensures .0)) _ _ (seen-some _ _ _ _ _ (c .before .before .before .before .before .before .before .before .before .before .before .before .before .before .before .before .before .item .given .1) (c .before .before .before .before .before .before .before .before .before .before .before .before .before .before .before .before .before .before .before .inner-number .ensures .0)) _ _ (seen-some _ _ _ _ _ (c .before .before .before .before .before .before .before .before .before .before .before .before .before .coef .given .1) (c .before .before .before .before .before .before .before .before .before .before .before .before .before .before .before .inner-number2 .ensures .0)) _ _ (seen-some-word _ _ _ _ _ _ (c .before .before .before .before .before .before .before .before .before .left-len .given .1) (c .before .before .before .before .before .before .before .before .before .before .before .inner-word .ensures .0)) _ _ (seen-some _ _ _ _ _ (c .before .before .before .before .before .of .given .1) (c .before .before .before .before .before .before .before .inner-number3 .ensures .0)) _ (seen-word _ _ _ _ (c .before .right-len .given .1) (c .before .before .before .last-word .ensures .0)), (span-le _ _ _ _ _ (c .before .before .before .before .before .before .before .before .before .left-len .given .1) (c .before .before .before .before .before .before .before .before .before .before .before .inner-word .ensures .1 .1), len-le _ _ _ _ (c .before .right-len .given .1) (c .before .before .before .last-word .ensures .1)))
+returns-7 c =
+    let c3 = c .before .before .before in
+    let c5 = c3 .before .before in
+    let c7 = c5 .before .before in
+    let c9 = c7 .before .before in
+    let c11 = c9 .before .before in
+    let c13 = c11 .before .before in
+    let c15 = c13 .before .before in
+    let c17 = c15 .before .before in
+    let c19 = c17 .before .before in
+    let c21 = c19 .before .before in
+    let c23 = c21 .before .before in (
+      sum-whole _ _ _ (seen-some _ _ _ _ _ (c21 .kind .given .1) (c23 .inner-rank .ensures .0)) _ _
+          (seen-some _ _ _ _ _ (c17 .item .given .1) (c19 .inner-number .ensures .0)) _ _
+          (seen-some _ _ _ _ _ (c13 .coef .given .1) (c15 .inner-number2 .ensures .0)) _ _
+          (seen-some-word _ _ _ _ _ _ (c9 .left-len .given .1) (c11 .inner-word .ensures .0)) _ _
+          (seen-some _ _ _ _ _ (c5 .of .given .1) (c7 .inner-number3 .ensures .0)) _
+          (seen-word _ _ _ _ (c .before .right-len .given .1) (c3 .last-word .ensures .0)),
+      (span-le _ _ _ _ _ (c9 .left-len .given .1) (c11 .inner-word .ensures .1 .1), len-le _ _ _ _ (c .before .right-len .given .1) (c3 .last-word .ensures .1)),
+    )
 
 pub read-sum-spec : {M : Type 1} → statement M
 read-sum-spec =

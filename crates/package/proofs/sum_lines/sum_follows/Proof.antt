@@ -1,3 +1,4 @@
+-- `sum_follows` is `sumFollows`.
 use borrow.Author.Tests.{eq-eqb, ne-eqb}
 use Rattle.package.specs.Sums.{sumFollows}
 use Rattle.package.proofs.sum_lines.sum_follows.Statement.{statement}

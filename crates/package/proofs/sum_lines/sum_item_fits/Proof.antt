@@ -1,3 +1,4 @@
+-- `sum_item_fits` is `sumItemFits`, kind by kind.
 use borrow.Author.Tests.{eq-eqb, ne-eqb}
 use borrow.Author.Needs.{needs}
 use Rattle.package.specs.Sums.{sumItemFits}

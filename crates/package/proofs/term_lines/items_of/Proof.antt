@@ -1,3 +1,4 @@
+-- `items_of` is `itemsOf`.
 use borrow.Author.Tests.{eq-eqb, ne-eqb}
 use Rattle.package.specs.Terms.{itemsOf}
 use Rattle.package.proofs.term_lines.items_of.Statement.{statement}

@@ -1,3 +1,4 @@
+-- `judge_read` judges a term line that has its shape as `judged` does: refusals 5, 6, 7.
 use mathlib.Core.Path.{sym, _∙_}
 use native.Mathlib.Omega.{arith}
 use borrow.Author.Tests.{not-true, not-false}
@@ -26,7 +27,13 @@ term-fits-requires c κs = search needs
 
 returns : tie.Need-returns
 unfolding seenJudged reachJudged
-returns c = let a = c .before .before .before .before .args in (judge-5 (a .h) (a .m) (aboveOf (now (a .s)) (a .last)) (a .total) (a .kind) (a .item) (a .coef) _ (sym (rw part-end at (c .before .term-fits .ensures)) ∙ not-true _ (c .if1 .taken)), omega arith)
+returns c =
+    let c4 = c .before .before .before .before in
+    let a = c4 .args in (
+      judge-5 (a .h) (a .m) (aboveOf (now (a .s)) (a .last)) (a .total) (a .kind) (a .item) (a .coef) _
+          (sym (rw part-end at (c .before .term-fits .ensures)) ∙ not-true _ (c .if1 .taken)),
+      omega arith,
+    )
 
 sub-term-follows : tie.Need-sub-term-follows
 sub-term-follows c = search needs
@@ -42,22 +49,70 @@ term-follows-requires c κs = search needs
 
 returns-2 : tie.Need-returns-2
 unfolding seenJudged reachJudged
-returns-2 c = let a = c .before .before .before .before .before .before .before .args in (judge-6 (a .h) (a .m) (aboveOf (now (a .s)) (a .last)) (a .total) (a .kind) (a .item) (a .coef) _ (sym (rw part-end at (c .before .before .before .before .term-fits .ensures)) ∙ not-false _ (c .before .before .before .if1 .left)) (sym (rw part-end at (c .before .term-follows .ensures)) ∙ not-true _ (c .if2 .taken)), omega arith)
+returns-2 c =
+    let c3 = c .before .before .before in
+    let c4 = c3 .before in
+    let c7 = c4 .before .before .before in
+    let a = c7 .args in (
+      judge-6 (a .h) (a .m) (aboveOf (now (a .s)) (a .last)) (a .total) (a .kind) (a .item) (a .coef) _
+          (sym (rw part-end at (c4 .term-fits .ensures)) ∙ not-false _ (c3 .if1 .left))
+          (sym (rw part-end at (c .before .term-follows .ensures)) ∙ not-true _ (c .if2 .taken)),
+      omega arith,
+    )
 
 term-count-requires : tie.Need-term-count-requires
 term-count-requires c κs = search needs
 
 returns-3 : tie.Need-returns-3
 unfolding seenJudged reachJudged
-returns-3 c = let a = c .before .before .before .before .before .before .before .before .before .before .args in (judge-7-item (a .h) (a .m) (aboveOf (now (a .s)) (a .last)) (a .total) (a .kind) (a .item) (a .coef) _ (sym (rw part-end at (c .before .before .before .before .before .before .before .term-fits .ensures)) ∙ not-false _ (c .before .before .before .before .before .before .if1 .left)) (sym (rw part-end at (c .before .before .before .before .term-follows .ensures)) ∙ not-false _ (c .before .before .before .if2 .left)) (omega (arith, c .before .before .term-count .ensures, counted-word (now (a .s)) (a .last) (a .kind) (a .item))), omega arith)
+returns-3 c =
+    let c2 = c .before .before in
+    let c3 = c2 .before in
+    let c4 = c3 .before in
+    let c6 = c4 .before .before in
+    let c7 = c6 .before in
+    let c10 = c7 .before .before .before in
+    let a = c10 .args in (
+      judge-7-item (a .h) (a .m) (aboveOf (now (a .s)) (a .last)) (a .total) (a .kind) (a .item) (a .coef) _
+          (sym (rw part-end at (c7 .term-fits .ensures)) ∙ not-false _ (c6 .if1 .left))
+          (sym (rw part-end at (c4 .term-follows .ensures)) ∙ not-false _ (c3 .if2 .left))
+          (omega (arith, c2 .term-count .ensures, counted-word (now (a .s)) (a .last) (a .kind) (a .item))),
+      omega arith,
+    )
 
 returns-4 : tie.Need-returns-4
 unfolding seenJudged reachJudged
-returns-4 c = let a = c .before .before .before .before .before .before .before .before .before .before .before .args in (judge-0 (a .h) (a .m) (aboveOf (now (a .s)) (a .last)) (a .total) (a .kind) (a .item) (a .coef) _ (sym (rw part-end at (c .before .before .before .before .before .before .before .before .term-fits .ensures)) ∙ not-false _ (c .before .before .before .before .before .before .before .if1 .left)) (sym (rw part-end at (c .before .before .before .before .before .term-follows .ensures)) ∙ not-false _ (c .before .before .before .before .if2 .left)) (omega (arith, c .before .before .before .term-count .ensures, counted-word (now (a .s)) (a .last) (a .kind) (a .item))) (c .if4 .taken), omega arith)
+returns-4 c =
+    let c3 = c .before .before .before in
+    let c4 = c3 .before in
+    let c5 = c4 .before in
+    let c7 = c5 .before .before in
+    let c8 = c7 .before in
+    let c11 = c8 .before .before .before in
+    let a = c11 .args in (
+      judge-0 (a .h) (a .m) (aboveOf (now (a .s)) (a .last)) (a .total) (a .kind) (a .item) (a .coef) _
+          (sym (rw part-end at (c8 .term-fits .ensures)) ∙ not-false _ (c7 .if1 .left))
+          (sym (rw part-end at (c5 .term-follows .ensures)) ∙ not-false _ (c4 .if2 .left))
+          (omega (arith, c3 .term-count .ensures, counted-word (now (a .s)) (a .last) (a .kind) (a .item))) (c .if4 .taken),
+      omega arith,
+    )
 
 returns-5 : tie.Need-returns-5
 unfolding seenJudged reachJudged
-returns-5 c = let a = c .before .before .before .before .before .before .before .before .before .before .before .args in (judge-7-total (a .h) (a .m) (aboveOf (now (a .s)) (a .last)) (a .total) (a .kind) (a .item) (a .coef) _ (sym (rw part-end at (c .before .before .before .before .before .before .before .before .term-fits .ensures)) ∙ not-false _ (c .before .before .before .before .before .before .before .if1 .left)) (sym (rw part-end at (c .before .before .before .before .before .term-follows .ensures)) ∙ not-false _ (c .before .before .before .before .if2 .left)) (omega (arith, c .before .before .before .term-count .ensures, counted-word (now (a .s)) (a .last) (a .kind) (a .item))) (c .if4 .left), omega arith)
+returns-5 c =
+    let c3 = c .before .before .before in
+    let c4 = c3 .before in
+    let c5 = c4 .before in
+    let c7 = c5 .before .before in
+    let c8 = c7 .before in
+    let c11 = c8 .before .before .before in
+    let a = c11 .args in (
+      judge-7-total (a .h) (a .m) (aboveOf (now (a .s)) (a .last)) (a .total) (a .kind) (a .item) (a .coef) _
+          (sym (rw part-end at (c8 .term-fits .ensures)) ∙ not-false _ (c7 .if1 .left))
+          (sym (rw part-end at (c5 .term-follows .ensures)) ∙ not-false _ (c4 .if2 .left))
+          (omega (arith, c3 .term-count .ensures, counted-word (now (a .s)) (a .last) (a .kind) (a .item))) (c .if4 .left),
+      omega arith,
+    )
 
 pub judge-read-spec : {M : Type 1} → statement M
 judge-read-spec =

@@ -1,3 +1,4 @@
+-- `judge_term` reads and judges a line as `judgeTerm` does.
 use mathlib.Core.Path.{_∙_}
 use native.Mathlib.Omega.{arith}
 use borrow.Author.Needs.{needs}
@@ -29,25 +30,37 @@ enum-known-t c = search needs
 add-judge-read : tie.Need-add-judge-read
 add-judge-read c =
     let a = c .before .before .before .before .before .before .args in
-    omega (arith, reach-part (now (a .s)) (a .at) (a .e) _ _ _ _ _ _ (search needs) (search needs) (c .before .t .given .1) (c .before .before .before .read-term .ensures .1))
+    omega (
+      arith,
+      reach-part (now (a .s)) (a .at) (a .e) _ _ _ _ _ _ (search needs) (search needs) (c .before .t .given .1)
+          (c .before .before .before .read-term .ensures .1),
+    )
 
 judge-read-requires : tie.Need-judge-read-requires
 judge-read-requires c κs =
     let a = c .before .before .before .before .before .before .args in
-    let z = reach-part (now (a .s)) (a .at) (a .e) _ _ _ _ _ _ (search needs) (search needs) (c .before .t .given .1) (c .before .before .before .read-term .ensures .1) in
+    let z = reach-part (now (a .s)) (a .at) (a .e) _ _ _ _ _ _ (search needs) (search needs) (c .before .t .given .1)
+    (c .before .before .before .read-term .ensures .1) in
     (search needs, (search needs, (search needs, omega arith)))
 
 returns : tie.Need-returns
 unfolding seenJudged reachJudged
 returns c =
-    let a = c .before .before .before .before .before .args in
-    (judge-2 (a .h) (a .m) (aboveOf (now (a .s)) (a .last)) (a .total) _ (seen-misshapen _ _ _ (c .enum-told .given .1) (c .before .before .read-term .ensures .0)), omega arith)
+    let a = c .before .before .before .before .before .args in (
+      judge-2 (a .h) (a .m) (aboveOf (now (a .s)) (a .last)) (a .total) _
+          (seen-misshapen _ _ _ (c .enum-told .given .1) (c .before .before .read-term .ensures .0)),
+      omega arith,
+    )
 
 returns-2 : tie.Need-returns-2
 returns-2 c =
     let a = c .before .before .before .before .before .before .before .args in
-    let z = reach-part (now (a .s)) (a .at) (a .e) _ _ _ _ _ _ (search needs) (search needs) (c .before .before .t .given .1) (c .before .before .before .before .read-term .ensures .1) in
-    (c .judge-read .ensures .0 ∙ judge-read (a .h) (a .m) (aboveOf (now (a .s)) (a .last)) (a .total) (now (a .s)) (a .at) _ _ _ _ _ _ z (seen-term _ _ _ _ _ _ _ _ (c .before .before .t .given .1) (c .before .before .before .before .read-term .ensures .0)), c .judge-read .ensures .1)
+    let z = reach-part (now (a .s)) (a .at) (a .e) _ _ _ _ _ _ (search needs) (search needs) (c .before .before .t .given .1)
+    (c .before .before .before .before .read-term .ensures .1) in (
+      c .judge-read .ensures .0 ∙ judge-read (a .h) (a .m) (aboveOf (now (a .s)) (a .last)) (a .total) (now (a .s)) (a .at) _ _ _ _ _ _ z
+          (seen-term _ _ _ _ _ _ _ _ (c .before .before .t .given .1) (c .before .before .before .before .read-term .ensures .0)),
+      c .judge-read .ensures .1,
+    )
 
 pub judge-term-spec : {M : Type 1} → statement M
 judge-term-spec =

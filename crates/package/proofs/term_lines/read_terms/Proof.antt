@@ -36,7 +36,20 @@ abbrev μ-loop : tie.MeasureT-loop
 
 loop-holds : tie.Need-loop-holds Inv-loop μ-loop
 unfolding start kept
-loop-holds c = (search needs, search needs, (search needs, search needs, search needs), search needs, search needs, search needs, search needs, search needs, search needs, search needs, refl, λ i z. absurd (omega arith))
+loop-holds c = (
+  search needs,
+  search needs,
+  (search needs, search needs, search needs),
+  search needs,
+  search needs,
+  search needs,
+  search needs,
+  search needs,
+  search needs,
+  search needs,
+  refl,
+  λ i z. absurd (omega arith),
+)
 
 find-requires : tie.Need-find-requires Inv-loop μ-loop
 find-requires c κs = search needs
@@ -61,8 +74,11 @@ unfolding seen2 spotOf lineOf countOf
 returns c =
     let x = c .before .before .loop in
     let a = c .before .before .before .before .before .before .before .before .before .args in
-    let s = now (a .s) in
-    (turn-missing (a .h) (a .m) (aboveOf s (x .last)) (kept s (x .kinds) (x .items) (x .coefs) (x .starts) (x .lens) (x .n)) (x .line) s (x .at) _ (c .before .find .ensures .0) (c .if1 .taken) ∙ x .inv .10, ((omega arith, λ i z. absurd (omega arith)), (omega arith, omega arith)))
+    let s = now (a .s) in (
+      turn-missing (a .h) (a .m) (aboveOf s (x .last)) (kept s (x .kinds) (x .items) (x .coefs) (x .starts) (x .lens) (x .n)) (x .line) s (x .at) _
+          (c .before .find .ensures .0) (c .if1 .taken) ∙ x .inv .10,
+      ((omega arith, λ i z. absurd (omega arith)), (omega arith, omega arith)),
+    )
 
 sub-is-sum-names : tie.Need-sub-is-sum-names Inv-loop μ-loop
 sub-is-sum-names c = search needs
@@ -104,7 +120,8 @@ returns-2 c =
     let x = f .before .loop in
     let a = f .before .before .before .before .before .before .before .before .args in
     let s = now (a .s) in (
-      rw add-one (turn-names (a .h) (a .m) (aboveOf s (x .last)) (kept s (x .kinds) (x .items) (x .coefs) (x .starts) (x .lens) (x .n)) (x .line) s (x .at) _ (f .find .ensures .0) (c .before .before .before .if1 .left) (sym (c .before .is-sum-names .ensures) ∙ c .if2 .taken) ∙ x .inv .10),
+      rw add-one (turn-names (a .h) (a .m) (aboveOf s (x .last)) (kept s (x .kinds) (x .items) (x .coefs) (x .starts) (x .lens) (x .n)) (x .line) s
+          (x .at) _ (f .find .ensures .0) (c .before .before .before .if1 .left) (sym (c .before .is-sum-names .ensures) ∙ c .if2 .taken) ∙ x .inv .10),
       ((x .inv .2 .0, x .inv .11), (omega (arith, c .before .before .before .if1 .left), omega (arith, x .inv .1, f .find .ensures .1 .1))),
     )
 
@@ -139,7 +156,8 @@ returns-3 c =
     let s = now (a .s) in
     let j = seen-refuse s _ _ _ (c .before .j .given .1) (t .judge-term .ensures .0) in
     let k = rw (← kept-length s (x .kinds) (x .items) (x .coefs) (x .starts) (x .lens) (x .n)) at j in (
-      turn-refuse (a .h) (a .m) (aboveOf s (x .last)) (kept s (x .kinds) (x .items) (x .coefs) (x .starts) (x .lens) (x .n)) (x .line) s (x .at) _ (f .find .ensures .0) (t .before .before .before .before .if1 .left) (sym (t .before .before .is-sum-names .ensures) ∙ t .before .if2 .left) _ k ∙ x .inv .10,
+      turn-refuse (a .h) (a .m) (aboveOf s (x .last)) (kept s (x .kinds) (x .items) (x .coefs) (x .starts) (x .lens) (x .n)) (x .line) s (x .at) _
+          (f .find .ensures .0) (t .before .before .before .before .if1 .left) (sym (t .before .before .is-sum-names .ensures) ∙ t .before .if2 .left) _ k ∙ x .inv .10,
       ((omega arith, λ i z. absurd (omega arith)), (omega arith, omega arith)),
     )
 
@@ -147,7 +165,10 @@ enum-known-j-2 : tie.Need-enum-known-j-2 Inv-loop μ-loop
 enum-known-j-2 c = search needs
 
 term-count-requires : tie.Need-term-count-requires Inv-loop μ-loop
-term-count-requires c κs = let x = c .before .before .before .before .before .before .before .before .before .loop in omega (arith, x .inv .8, x .inv .2 .2)
+term-count-requires c κs =
+    let c9 = c .before .before .before .before .before .before .before .before .before in
+    let x = c9 .loop in
+    omega (arith, x .inv .8, x .inv .2 .2)
 
 store-requires : tie.Need-store-requires Inv-loop μ-loop
 store-requires c κs =
@@ -161,16 +182,33 @@ store-requires c κs =
     (omega (arith, x .inv .3), omega (arith, x .inv .4), omega (arith, x .inv .5), omega (arith, x .inv .6), omega (arith, x .inv .7))
 
 add-n : tie.Need-add-n Inv-loop μ-loop
-add-n c = let x = c .before .before .before .before .before .before .before .before .before .before .before .before .before .before .before .before .before .before .before .before .before .before .before .before .before .before .loop in omega (arith, x .inv .2 .0)
+add-n c =
+    let c26 = c .before .before .before .before .before .before .before .before .before .before .before .before .before .before .before .before .before .before .before .before .before .before .before .before .before .before in
+    let x = c26 .loop in
+    omega (arith, x .inv .2 .0)
 
 add-at : tie.Need-add-at Inv-loop μ-loop
-add-at c = let x = c .before .before .before .before .before .before .before .before .before .before .before .before .before .before .before .before .before .before .before .before .before .before .before .before .before .before .loop in omega (arith, c .before .before .before .before .before .before .before .before .before .before .before .before .before .before .before .before .before .before .before .before .before .before .before .before .if1 .left, x .inv .2 .1)
+add-at c =
+    let c24 = c .before .before .before .before .before .before .before .before .before .before .before .before .before .before .before .before .before .before .before .before .before .before .before .before in
+    let c26 = c24 .before .before in
+    let x = c26 .loop in
+    omega (arith, c24 .if1 .left, x .inv .2 .1)
 
 add-line : tie.Need-add-line Inv-loop μ-loop
-add-line c = let x = c .before .before .before .before .before .before .before .before .before .before .before .before .before .before .before .before .before .before .before .before .before .before .before .before .before .before .loop in omega (arith, c .before .before .before .before .before .before .before .before .before .before .before .before .before .before .before .before .before .before .before .before .before .before .before .before .if1 .left, x .inv .1, c .before .before .before .before .before .before .before .before .before .before .before .before .before .before .before .before .before .before .before .before .before .before .before .before .before .find .ensures .1 .1, x .inv .2 .1)
+add-line c =
+    let c24 = c .before .before .before .before .before .before .before .before .before .before .before .before .before .before .before .before .before .before .before .before .before .before .before .before in
+    let c25 = c24 .before in
+    let c26 = c25 .before in
+    let x = c26 .loop in
+    omega (arith, c24 .if1 .left, x .inv .1, c25 .find .ensures .1 .1, x .inv .2 .1)
 
 loop-less : tie.Need-loop-less Inv-loop μ-loop
-loop-less c = let x = c .before .before .before .before .before .before .before .before .before .before .before .before .before .before .before .before .before .before .before .before .before .before .before .before .before .before .loop in omega (arith, c .before .before .before .before .before .before .before .before .before .before .before .before .before .before .before .before .before .before .before .before .before .before .before .before .if1 .left, x .inv .0, c .before .before .before .before .before .before .before .before .before .before .before .before .before .before .before .before .before .before .before .before .before .before .before .before .before .find .ensures .1 .1)
+loop-less c =
+    let c24 = c .before .before .before .before .before .before .before .before .before .before .before .before .before .before .before .before .before .before .before .before .before .before .before .before in
+    let c25 = c24 .before in
+    let c26 = c25 .before in
+    let x = c26 .loop in
+    omega (arith, c24 .if1 .left, x .inv .0, c25 .find .ensures .1 .1)
 
 loop-again : tie.Need-loop-again Inv-loop μ-loop
 loop-again c =

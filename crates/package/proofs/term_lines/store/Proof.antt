@@ -1,3 +1,4 @@
+-- `store` sets one place of each slice.
 use mathlib.Core.Path.{refl}
 use borrow.Author.Needs.{needs}
 use Rattle.package.proofs.term_lines.store.Statement.{statement}

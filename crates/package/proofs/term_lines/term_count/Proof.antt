@@ -1,3 +1,4 @@
+-- `term_count` is `counted`.
 use native.Mathlib.Numerals.{add-one}
 use borrow.Author.Tests.{eq-eqb, ne-eqb}
 use borrow.Author.Needs.{needs}

@@ -1,3 +1,4 @@
+-- `term_follows` is `follows`: the kind, then the item, then the word.
 use borrow.Author.Tests.{eq-eqb, ne-eqb}
 use borrow.Author.Needs.{needs}
 use Rattle.package.specs.Terms.{follows}
@@ -22,7 +23,10 @@ is-below-requires c κs = search needs
 
 returns : tie.Need-returns
 unfolding follows
-returns c = rw (follows, eq-eqb _ _ (c .before .before .before .before .before .if1 .taken), eq-eqb _ _ (c .before .before .before .if2 .taken)) (rw part-end at (c .is-below .ensures))
+returns c =
+    let c3 = c .before .before .before in
+    let c5 = c3 .before .before in
+    rw (follows, eq-eqb _ _ (c5 .if1 .taken), eq-eqb _ _ (c3 .if2 .taken)) (rw part-end at (c .is-below .ensures))
 
 returns-2 : tie.Need-returns-2
 unfolding follows

@@ -30,7 +30,8 @@ is-within-requires c κs = search needs
 returns : tie.Need-returns Inv-loop μ-loop
 returns c =
     let l = c .before .before .before .before .before in
-    sym (sym (l .loop .inv .1) ∙ all-not _ _ _ (l .loop .i) (search needs) (ap (within _ _) (sym (c .before .before .wide .ensures)) ∙ sym (c .before .is-within .ensures) ∙ not-true _ (c .if1 .taken)))
+    sym (sym (l .loop .inv .1) ∙ all-not _ _ _ (l .loop .i) (search needs)
+    (ap (within _ _) (sym (c .before .before .wide .ensures)) ∙ sym (c .before .is-within .ensures) ∙ not-true _ (c .if1 .taken)))
 
 add-i : tie.Need-add-i Inv-loop μ-loop
 add-i c = search needs
@@ -40,8 +41,11 @@ loop-less c = search needs
 
 loop-again : tie.Need-loop-again Inv-loop μ-loop
 loop-again c =
-    let l = c .before .before .before .before .before in
-    (search needs, all-here _ _ _ (l .loop .i) (search needs) (ap (within _ _) (sym (c .before .before .wide .ensures)) ∙ sym (c .before .is-within .ensures) ∙ not-false _ (c .if1 .left)) ∙ l .loop .inv .1)
+    let l = c .before .before .before .before .before in (
+      search needs,
+      all-here _ _ _ (l .loop .i) (search needs)
+          (ap (within _ _) (sym (c .before .before .wide .ensures)) ∙ sym (c .before .is-within .ensures) ∙ not-false _ (c .if1 .left)) ∙ l .loop .inv .1,
+    )
 
 returns-2 : tie.Need-returns-2 Inv-loop μ-loop
 returns-2 c =

@@ -38,11 +38,21 @@ add-t13 c = search needs
 
 returns-2 : tie.Need-returns-2
 unfolding seenNum nextNum
-returns-2 c = (num-wrong (rank (now (c .before .before .before .before .before .before .before .before .args .kinds))) _ _ _ (c .before .before .before .before .before .find .ensures .0) _ (c .before .before .before .before .if1 .left) (c .before .before .read-rank .ensures) (c .enum-told .given .1), omega arith)
+returns-2 c =
+    let c2 = c .before .before in
+    let c4 = c2 .before .before in
+    let c5 = c4 .before in
+    let c8 = c5 .before .before .before in
+    (num-wrong (rank (now (c8 .args .kinds))) _ _ _ (c5 .find .ensures .0) _ (c4 .if1 .left) (c2 .read-rank .ensures) (c .enum-told .given .1), omega arith)
 
 returns-3 : tie.Need-returns-3
 unfolding seenNum nextNum
-returns-3 c = (num-value (rank (now (c .before .before .before .before .before .before .before .before .before .args .kinds))) _ _ _ (c .before .before .before .before .before .before .find .ensures .0) _ _ (c .before .before .before .before .before .if1 .left) (c .before .before .before .read-rank .ensures) (c .before .n .given .1), omega arith)
+returns-3 c =
+    let c3 = c .before .before .before in
+    let c5 = c3 .before .before in
+    let c6 = c5 .before in
+    let c9 = c6 .before .before .before in
+    (num-value (rank (now (c9 .args .kinds))) _ _ _ (c6 .find .ensures .0) _ _ (c5 .if1 .left) (c3 .read-rank .ensures) (c .before .n .given .1), omega arith)
 
 pub inner-rank-spec : {M : Type 1} → statement M
 inner-rank-spec =

@@ -25,7 +25,11 @@ read-number-requires : tie.Need-read-number-requires
 read-number-requires c κs = search needs
 
 returns-2 : tie.Need-returns-2
-returns-2 c = let e = rw tail-part at (c .read-number .ensures) in e ∙ last-num-end _ _ _ (c .before .before .before .find .ensures .0) (c .before .before .if1 .left)
+returns-2 c =
+    let c2 = c .before .before in
+    let c3 = c2 .before in
+    let e = rw tail-part at (c .read-number .ensures) in
+    e ∙ last-num-end _ _ _ (c3 .find .ensures .0) (c2 .if1 .left)
 
 pub last-number-spec : {M : Type 1} → statement M
 last-number-spec =

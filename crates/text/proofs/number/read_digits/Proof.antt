@@ -34,7 +34,8 @@ returns c =
 returns-2 : tie.Need-returns-2 Inv-loop μ-loop
 returns-2 c =
     let l = c .before .before .before .before .before in
-    sym (sym (l .loop .inv .2) ∙ digits-not _ _ (l .loop .i) _ (search needs) (c .before .before .wide .ensures) (within-high _ _ _ (c .before .if1 .left) (c .if2 .taken)))
+    sym (sym (l .loop .inv .2) ∙ digits-not _ _ (l .loop .i) _ (search needs) (c .before .before .wide .ensures)
+    (within-high _ _ _ (c .before .if1 .left) (c .if2 .taken)))
 
 mul-n : tie.Need-mul-n Inv-loop μ-loop
 mul-n c = let l = c .before .before .before .before .before in omega (arith, pow-five (l .loop .i) (search needs))
@@ -50,8 +51,12 @@ loop-less c = search needs
 
 loop-again : tie.Need-loop-again Inv-loop μ-loop
 loop-again c =
-    let l = c .before .before .before .before .before in
-    (search needs, pow-more (l .loop .i) _ _ (search needs) (omega arith), digits-here _ _ (l .loop .i) _ (search needs) (c .before .before .wide .ensures) (c .before .if1 .left) (c .if2 .left) ∙ l .loop .inv .2)
+    let l = c .before .before .before .before .before in (
+      search needs,
+      pow-more (l .loop .i) _ _ (search needs) (omega arith),
+      digits-here _ _ (l .loop .i) _ (search needs)
+          (c .before .before .wide .ensures) (c .before .if1 .left) (c .if2 .left) ∙ l .loop .inv .2,
+    )
 
 returns-3 : tie.Need-returns-3 Inv-loop μ-loop
 returns-3 c =

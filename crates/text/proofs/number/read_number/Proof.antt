@@ -19,18 +19,27 @@ shared-slice-read-if3 c = search needs
 
 returns-3 : tie.Need-returns-3
 unfolding number
-returns-3 c = rw (number, within-in _ _ _ (c .before .before .before .before .if1 .left) (c .before .before .before .if2 .left), eq-eqb _ _ (c .before .if3 .taken), eq-eqb _ _ (c .if4 .taken))
+returns-3 c =
+    let c3 = c .before .before .before in
+    let c4 = c3 .before in
+    rw (number, within-in _ _ _ (c4 .if1 .left) (c3 .if2 .left), eq-eqb _ _ (c .before .if3 .taken), eq-eqb _ _ (c .if4 .taken))
 
 returns-4 : tie.Need-returns-4
 unfolding number
-returns-4 c = rw (number, within-in _ _ _ (c .before .before .before .before .if1 .left) (c .before .before .before .if2 .left), eq-eqb _ _ (c .before .if3 .taken), ne-eqb _ _ (c .if4 .left))
+returns-4 c =
+    let c3 = c .before .before .before in
+    let c4 = c3 .before in
+    rw (number, within-in _ _ _ (c4 .if1 .left) (c3 .if2 .left), eq-eqb _ _ (c .before .if3 .taken), ne-eqb _ _ (c .if4 .left))
 
 read-digits-requires : tie.Need-read-digits-requires
 read-digits-requires c κs = search needs
 
 returns-5 : tie.Need-returns-5
 unfolding number
-returns-5 c = rw (number, within-in _ _ _ (c .before .before .before .before .if1 .left) (c .before .before .before .if2 .left), ne-eqb _ _ (c .before .if3 .left)) (c .read-digits .ensures)
+returns-5 c =
+    let c3 = c .before .before .before in
+    let c4 = c3 .before in
+    rw (number, within-in _ _ _ (c4 .if1 .left) (c3 .if2 .left), ne-eqb _ _ (c .before .if3 .left)) (c .read-digits .ensures)
 
 pub read-number-spec : {M : Type 1} → statement M
 read-number-spec =

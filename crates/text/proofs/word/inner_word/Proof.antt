@@ -37,15 +37,23 @@ add-t12 c = search needs
 
 returns-2 : tie.Need-returns-2
 unfolding seenWordAt nextWord spanWord
-returns-2 c = (word-wrong _ _ _ (c .before .before .before .before .before .find .ensures .0) (c .before .before .before .before .if1 .left) (seen-no-word _ _ _ (c .enum-told .given .1) (c .before .before .read-word .ensures .0)), (omega arith, omega arith))
+returns-2 c =
+    let c2 = c .before .before in
+    let c4 = c2 .before .before in
+    let c5 = c4 .before in
+    (word-wrong _ _ _ (c5 .find .ensures .0) (c4 .if1 .left) (seen-no-word _ _ _ (c .enum-told .given .1) (c2 .read-word .ensures .0)), (omega arith, omega arith))
 
 returns-3 : tie.Need-returns-3
 unfolding seenWordAt nextWord spanWord
 returns-3 c =
     let a = c .before .before .before .before .before .before .before .before .args in
     let f = c .before .before .before .before .before .before .find .ensures in
-    let b = word-length (now (a .l)) (a .at) (c .before .before .before .before .before .before .find .result) _ _ (f .1 .1) (f .1 .0) (c .before .n .given .1) (c .before .before .before .read-word .ensures .1) in
-    (word-some _ _ _ (f .0) _ (c .before .before .before .before .before .if1 .left) b (seen-word _ _ _ _ (c .before .n .given .1) (c .before .before .before .read-word .ensures .0)), (omega arith, omega (arith, f .1 .1, f .1 .0, b)))
+    let b = word-length (now (a .l)) (a .at) (c .before .before .before .before .before .before .find .result) _ _ (f .1 .1) (f .1 .0)
+    (c .before .n .given .1) (c .before .before .before .read-word .ensures .1) in (
+      word-some _ _ _ (f .0) _ (c .before .before .before .before .before .if1 .left) b
+          (seen-word _ _ _ _ (c .before .n .given .1) (c .before .before .before .read-word .ensures .0)),
+      (omega arith, omega (arith, f .1 .1, f .1 .0, b)),
+    )
 
 pub inner-word-spec : {M : Type 1} → statement M
 inner-word-spec =

@@ -30,8 +30,11 @@ read-word-requires c κs = search needs
 
 returns-2 : tie.Need-returns-2
 returns-2 c =
-    let e = rw tail-part at (c .read-word .ensures .0) in
-    (e ∙ last-end _ _ _ (c .before .before .before .find .ensures .0) (c .before .before .if1 .left), omega (arith, rw (tail-part, length-drop) at (c .read-word .ensures .1)))
+    let e = rw tail-part at (c .read-word .ensures .0) in (
+      e ∙ last-end _ _ _ (c .before .before .before .find .ensures .0) (c .before .before .if1 .left),
+      omega
+          (arith, rw (tail-part, length-drop) at (c .read-word .ensures .1)),
+    )
 
 pub last-word-spec : {M : Type 1} → statement M
 last-word-spec =

@@ -25,11 +25,22 @@ all-within-requires c κs = search needs
 
 returns-3 : tie.Need-returns-3
 unfolding wordOf seenWord lenWord
-returns-3 c = (rw (wordOf, ne-eqb _ _ (c .before .before .before .before .if1 .left), ← c .before .before .before .is-dash .ensures, c .before .before .if2 .left, ← c .before .all-within .ensures, c .if3 .taken) (ap word (take-length _)), omega arith)
+returns-3 c =
+    let c2 = c .before .before in
+    let c3 = c2 .before in
+    let c4 = c3 .before in (
+      rw (wordOf, ne-eqb _ _ (c4 .if1 .left), ← c3 .is-dash .ensures, c2 .if2 .left, ← c .before .all-within .ensures, c .if3 .taken)
+          (ap word (take-length _)),
+      omega arith,
+    )
 
 returns-4 : tie.Need-returns-4
 unfolding wordOf seenWord lenWord
-returns-4 c = (rw (wordOf, ne-eqb _ _ (c .before .before .before .before .if1 .left), ← c .before .before .before .is-dash .ensures, c .before .before .if2 .left, ← c .before .all-within .ensures, c .if3 .left), omega arith)
+returns-4 c =
+    let c2 = c .before .before in
+    let c3 = c2 .before in
+    let c4 = c3 .before in
+    (rw (wordOf, ne-eqb _ _ (c4 .if1 .left), ← c3 .is-dash .ensures, c2 .if2 .left, ← c .before .all-within .ensures, c .if3 .left), omega arith)
 
 pub read-word-spec : {M : Type 1} → statement M
 read-word-spec =
