@@ -1,9 +1,9 @@
 -- `measure` counts the overlaps and adds up the lengths of their lines. The loop's invariant: those so far and those that are left are all.
 use Prim.Native.Nat.{_-_}
-use Rattle.overlaps.specs.Position.{ordinal}
-use Rattle.overlaps.proofs.Measuring.{Measuring, measuring-start, count-few, total-few, measuring-next, measuring-end}
-use Rattle.overlaps.proofs.Walking.{none-left, step}
 use native.Mathlib.Omega.{arith}
+use Rattle.overlaps.specs.Position.{ordinal}
+use Rattle.overlaps.proofs.Walking.{none-left, step}
+use Rattle.overlaps.proofs.Measuring.{Measuring, measuring-start, count-few, total-few, measuring-next, measuring-end}
 use borrow.Author.Needs.{needs}
 use Rattle.overlaps.proofs.listing.measure.Statement.{statement}
 use Rattle.overlaps.proofs.listing.measure.Tie as tie
@@ -38,10 +38,9 @@ add-count c = let l = c .before .before .before .before in omega (arith, count-f
 
 letters-requires : tie.Need-letters-requires Inv-loop μ-loop
 letters-requires c κs =
-    let t = c in
-    let o = t .before .before .before in
+    let o = c .before .before .before in
     let l = o .before in
-    let s = step _ _ _ _ _ (l .loop .inv .walking) _ _ (o .next-overlap .ensures) (t .before .next .given .1) in
+    let s = step _ _ _ _ _ (l .loop .inv .walking) _ _ (o .next-overlap .ensures) (c .before .next .given .1) in
     ((s .first-listed, s .second-listed, omega (arith, s .below-second)), (s .first-short, s .second-short))
 
 line-len-requires : tie.Need-line-len-requires Inv-loop μ-loop

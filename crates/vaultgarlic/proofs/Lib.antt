@@ -1,0 +1,3 @@
+-- The demands on the services, as theorems about what they answer.
+mod RefusalNumbers
+mod VerdictNumbers
