@@ -1,3 +1,4 @@
 -- The demands on the services, as theorems about what they answer.
 mod RefusalNumbers
 mod VerdictNumbers
+mod ListingAnswers

@@ -1,1 +1,2 @@
 pub mod Services
+pub mod ListingParts

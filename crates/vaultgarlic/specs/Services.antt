@@ -50,14 +50,18 @@ unfoldable pub checkedAs : List ℕ → Checked
 unfolding checkAnswer acceptance
 checkedAs bytes = checkAnswer (acceptance bytes)
 
--- Listing: the overlap count and the bytes of the list; 19 where the room is too short, with the bytes required.
-unfoldable pub listAnswer : ℕ → Outcome → Listed
-unfolding overlaps leads basis overlapText
-listAnswer room (refused n k) = record { number = n; place = k; overlaps = 0; written = 0 }
-listAnswer room (read P) = elim (ltb room (length (overlapText (leads (basis P))))) [
-  | true ↦ record { number = 19; place = length (overlapText (leads (basis P))); overlaps = 0; written = 0 }
-  | false ↦ record { number = 0; place = 0; overlaps = length (overlaps (leads (basis P))); written = length (overlapText (leads (basis P))) }
+-- Listing the overlaps of leading words: the overlap count and the bytes of the list; 19 where the room is too short, with the bytes required.
+unfoldable pub wordsListed : ℕ → List Word → Listed
+unfolding overlaps overlapText
+wordsListed room ws = elim (ltb room (length (overlapText ws))) [
+  | true ↦ record { number = 19; place = length (overlapText ws); overlaps = 0; written = 0 }
+  | false ↦ record { number = 0; place = 0; overlaps = length (overlaps ws); written = length (overlapText ws) }
 ]
+
+unfoldable pub listAnswer : ℕ → Outcome → Listed
+unfolding wordsListed leads basis
+listAnswer room (refused n k) = record { number = n; place = k; overlaps = 0; written = 0 }
+listAnswer room (read P) = wordsListed room (leads (basis P))
 
 -- Listing's answer for the package's bytes and an output slice of so many bytes.
 unfoldable pub listedAs : List ℕ → ℕ → Listed

@@ -2,6 +2,8 @@
 // short form, and say whether it is in the ideal. No service keeps state, and none has a precondition: any bytes end in an answer or in a
 // refusal by its number.
 
+pub mod list;
+
 // What the check answers: the refusal's number and place, or 0 and 0, and the overlap count.
 #[repr(C)]
 pub struct Checked {

@@ -1,0 +1,5 @@
+pub mod LeadingHeads
+pub mod HeldWords
+pub mod LineReading
+pub mod AboveCount
+pub mod Targets
