@@ -6,3 +6,4 @@ pub mod LineFacts
 pub mod ReadableContent
 pub mod Packages
 pub mod SlicesContent
+pub mod FormulaContent

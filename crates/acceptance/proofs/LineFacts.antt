@@ -24,7 +24,7 @@ use Rattle.package.specs.Terms.{itemsOf, termFits, LineAbove, follows}
 use Rattle.package.specs.Sums.{sumItemFits, ofs, sumFits}
 
 -- a test that is one of two
-both : (b c : Bool) → _≡_ {A = Bool} (elim b [ false ↦ false | true ↦ c ]) true → (b ≡ true) × (c ≡ true)
+pub both : (b c : Bool) → _≡_ {A = Bool} (elim b [ false ↦ false | true ↦ c ]) true → (b ≡ true) × (c ≡ true)
 both true c e = (refl, e)
 both false c e = absurd (false≢true e)
 

@@ -126,6 +126,13 @@ module _ {K : Operations} (F : Field K) {O : Order} (A : Admissible O) (ps : Lis
     unfolding takeAway
     stepped-words f x v q = plus-words K O P f _ v (scale-words K P (K .neg (x .coef)) (shift (x .left) (x .right) (family ps (x .of))) (words-ok x q))
 
+    -- a property of all words that the steps keep
+    pub sequence-words : {f N : Poly} {xs : List Line} → All (λ t. P (t .word)) f → Sequence K O ps f xs N → All (λ t. P (t .word)) N
+    unfolding stepped
+    sequence-words v (ended e) = v
+    sequence-words {f} v (step {t = t} {i} {n} e s) =
+        let (a, b) = target-reducible ps (λ r. P (r .word)) f t i n v e in sequence-words (stepped-words f (lineAt ps t i n) v (line-ok t i n a b)) s
+
     pub sequence-ran : {f N : Poly} {xs : List Line} → Written K O f → All (λ t. P (t .word)) f → Sequence K O ps f xs N → Ran Q K O ps f xs N
     unfolding stepped value
     sequence-ran {f} c v (ended e) = record {
@@ -168,6 +175,10 @@ module _ {K : Operations} (F : Field K) {O : Order} (A : Admissible O) (ps : Lis
     -- the lines taken away are over the letters
     pub sequence-over : {f N : Poly} {xs : List Line} → Written K O f → InLetters L f → Sequence K O ps f xs N → Ran (Over L) K O ps f xs N
     sequence-over = sequence-ran (All L) (Over L) line-over (λ x o. shift-letters L (x .left) (x .right) _ (o .0) (o .1) (valid (x .of)))
+
+    -- the end of the sequence is in the letters
+    pub sequence-letters : {f N : Poly} {xs : List Line} → InLetters L f → Sequence K O ps f xs N → InLetters L N
+    sequence-letters = sequence-words (All L) (Over L) line-over (λ x o. shift-letters L (x .left) (x .right) _ (o .0) (o .1) (valid (x .of)))
 
     -- the end of the sequence is the short form
     pub sequence-short : {H : Family} → Accepted L K O H (family ps) → {f N : Poly} {xs : List Line}
