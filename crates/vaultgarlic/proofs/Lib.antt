@@ -2,3 +2,5 @@
 mod RefusalNumbers
 mod VerdictNumbers
 mod ListingAnswers
+mod Answers
+mod Demands
