@@ -3,4 +3,6 @@ mod RefusalNumbers
 mod VerdictNumbers
 mod ListingAnswers
 mod Answers
+mod Refusals
+mod Acceptance
 mod Demands
