@@ -74,9 +74,10 @@ module _ (bytes : List ℕ) (P : Package) (acc : AcceptedAs bytes P) where
     ran-short budget N m e =
         let F = readable-field P readable in
         let v = family-letters (Letter (P .head .letters)) (basis P) (basis-letters P readable) in
-        let (xs, s, l) = run-sequence 512 (fieldOf (P .head .p)) wordOrder (basis P) budget f N m e in
-        (sequence-short F word-order-admissible (basis P) (Letter (P .head .letters)) v basis-accepted (content .0) (content .1) s,
-        sequence-letters F word-order-admissible (basis P) (Letter (P .head .letters)) v (content .1) s)
+        let (xs, s, l) = run-sequence 512 (fieldOf (P .head .p)) wordOrder (basis P) budget f N m e in (
+          sequence-short F word-order-admissible (basis P) (Letter (P .head .letters)) v basis-accepted (content .0) (content .1) s,
+          sequence-letters F word-order-admissible (basis P) (Letter (P .head .letters)) v (content .1) s,
+        )
 
     -- Demand 3, the short form: the bytes written are the text of a polynomial with no leading word inside that differs from the formula by a
     -- sum over the relations, and any polynomial with both properties equals it.
@@ -114,6 +115,7 @@ module _ (bytes : List ℕ) (P : Package) (acc : AcceptedAs bytes P) where
       let (t, l) = ran-short text₂ g y budget₂ N n e in
       let u = written-is bytes P stands text₁ f x budget₁ M m d out₁ a in
       let v = written-is bytes P stands text₂ g y budget₂ N n e out₂ b in
-      let i = short-iff (readable-field P readable) word-order-admissible basis-accepted s t in
-      (λ q. i .0 (text-unique (P .head .p) (P .head .letters) (bounds .most) (bounds .letters) M N (s .written) k (t .written) l (sym u ∙ q ∙ v)),
-      λ q. u ∙ ap writeFormula (i .1 q) ∙ sym v)
+      let i = short-iff (readable-field P readable) word-order-admissible basis-accepted s t in (
+        λ q. i .0 (text-unique (P .head .p) (P .head .letters) (bounds .most) (bounds .letters) M N (s .written) k (t .written) l (sym u ∙ q ∙ v)),
+        λ q. u ∙ ap writeFormula (i .1 q) ∙ sym v,
+      )

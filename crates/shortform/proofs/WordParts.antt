@@ -1,0 +1,75 @@
+-- A word that lies in letters, cut at a spot: left and right as parts of the letters.
+use mathlib.Core.Path.{_≡_, refl, sym, _∙_, ap}
+use mathlib.Core.Option.{Option, none, some}
+use mathlib.Core.List.{List, [], _∷_, _++_}
+use Prim.Native.Nat.{ℕ, zero, suc, _+_, _-_, _≤_}
+use native.Mathlib.Omega.{arith}
+use lib.ListN.{length, take, drop, length-append, length-drop}
+use lib.Seq.{take-take, drop-drop, length-take-le, sets-eq, sets, take-at}
+use Rattle.words.specs.Word.{Word}
+use Rattle.algebra.specs.Poly.{Poly}
+use Rattle.algebra.specs.Ideal.{family}
+use Rattle.algebra.specs.Groebner.{lead}
+use Rattle.algebra.specs.Spot.{firstBegins, nowhere, found, spotAt, spotFrom, spot}
+use Rattle.algebra.proofs.Spots.{spot-found}
+
+from-within : (ps : List Poly) (w : Word) (i m n : ℕ) → spotFrom ps w i ≡ found m n → m ≤ i + length w
+unfolding spotFrom spotAt
+from-within ps [] i m n e = go (firstBegins ps 1 []) e
+  where
+    go : (o : Option ℕ) → spotAt i o nowhere ≡ found m n → m ≤ i + 0
+    go (some k) d = let z : i ≡ m = cc in omega arith
+    go none d = let z : _≡_ {A = ℕ} 0 1 = cc in absurd (omega arith)
+from-within ps (a ∷ w) i m n e = go (firstBegins ps 1 (a ∷ w)) e (from-within ps w (suc i) m n)
+  where
+    go : (o : Option ℕ) → spotAt i o (spotFrom ps w (suc i)) ≡ found m n → (spotFrom ps w (suc i) ≡ found m n → m ≤ suc i + length w) → m ≤ i + suc (length w)
+    go (some k) d rest = let z : i ≡ m = cc in omega arith
+    go none d rest = let z = rest d in omega arith
+
+-- a spot lies inside the word
+module _ (ps : List Poly) (v : Word) (i g : ℕ) (e : spot ps v ≡ found i g) where
+  place-within : i ≤ length v
+  unfolding spot
+  place-within = let z = from-within ps v 0 i g e in omega arith
+
+  pub spot-within : i + length (lead (family ps g)) ≤ length v
+  spot-within =
+      let n = length (lead (family ps g)) in
+      let c = spot-found ps v i g e .1 in
+      let a = place-within in
+      let s : length (take i v) + (n + length (drop (i + n) v)) ≡ length v =
+      sym (length-append (take i v) (lead (family ps g) ++ drop (i + n) v) ∙ ap (λ (k : ℕ). length (take i v) + k) (length-append (lead (family ps g)) (drop (i + n) v)))
+      ∙ ap (λ (u : Word). length u) c in
+      let t : length (take i v) ≡ i = length-take-le i v a in
+      omega arith
+
+drop-take : (a b : ℕ) (xs : List ℕ) → drop a (take b xs) ≡ take (b - a) (drop a xs)
+drop-take zero b xs = let e : b - 0 ≡ b = omega arith in rw e
+drop-take (suc a) zero xs = let e : 0 - suc a ≡ 0 = omega arith in rw e
+drop-take (suc a) (suc b) [] = go (suc b - suc a)
+  where
+    go : (k : ℕ) → _≡_ {A = List ℕ} [] (take k [])
+    go zero = refl
+    go (suc k) = refl
+drop-take (suc a) (suc b) (x ∷ xs) = let e : suc b - suc a ≡ b - a = omega arith in rw e (drop-take a b xs)
+
+-- the word from start to end
+module _ (w : List ℕ) (start end i n : ℕ) (h : start + i + n ≤ end) where
+  pub left-part : take (start + i - start) (drop start w) ≡ take i (take (end - start) (drop start w))
+  left-part = let e : start + i - start ≡ i = omega arith in rw e (sym (take-take i (end - start) (drop start w) (omega arith)))
+
+  pub right-part : take (end - (start + i + n)) (drop (start + i + n) w) ≡ drop (i + n) (take (end - start) (drop start w))
+  right-part =
+      let a : end - start - (i + n) ≡ end - (start + i + n) = omega arith in
+      let b : start + (i + n) ≡ start + i + n = omega arith in
+      sym (drop-take (i + n) (end - start) (drop start w) ∙ rw (drop-drop (i + n) start w, a, b))
+
+-- letters stored at the front are the first letters
+pub front-stored : (b v : List ℕ) (r : ℕ) → r ≡ length v → length v ≤ length b → take r (sets b 0 v) ≡ v
+front-stored b v r e h = rw (e, sets-eq v b 0 (omega arith)) (take-front v (drop (0 + length v) b))
+  where
+    take-front : (x y : List ℕ) → take (length x) ((take 0 b ++ x) ++ y) ≡ x
+    take-front x y = take-at x y (length x) refl
+
+pub part-size : (w : List ℕ) (a b : ℕ) → a ≤ b → b ≤ length w → length (take (b - a) (drop a w)) ≡ b - a
+part-size w a b h k = length-take-le (b - a) (drop a w) (rw length-drop (omega arith))

@@ -1,0 +1,27 @@
+// The short form of a formula: bring it into the working arrays, find the term where a step applies, step,
+// run with a budget, and write the result.
+
+pub mod finding;
+pub mod loading;
+pub mod running;
+pub mod stepping;
+pub mod writing;
+
+// Where a step applies: the term's number, the leftmost place of a leading word in its word, and the number,
+// from 1, of the polynomial that it leads; or nowhere.
+pub enum Next {
+    Reduced,
+    Reducible {
+        term: usize,
+        place: usize,
+        number: usize,
+    },
+}
+
+// How running ends: with an answer of so many terms after so many steps; with a step that leaves over 512 terms;
+// or with the budget spent.
+pub enum Ran {
+    Answer { terms: usize, steps: u32 },
+    Over { step: u32 },
+    Spent,
+}
