@@ -1,0 +1,321 @@
+// The check of a package that was read, in document 01's order: 8, 9; then B items with 10 and 11; G items with 10 and 12; then 15; then O items with 14, 10 and 13.
+
+use crate::BasisAnswer;
+use crate::Checked;
+use crate::SumsAnswer;
+use crate::basis::judge_basis;
+use crate::item_lines::judge_items;
+use crate::overlap_at::count_overlaps;
+use crate::overlap_sums::judge_overlaps;
+use crate::sums::judge_sums;
+use package::Head;
+ghost use mathlib.Core.Path.{_≡_};
+ghost use Prim.Native.Nat.{_+_, _≤_};
+ghost use lib.ListN.{length};
+ghost use Rattle.field.specs.Field.{fieldOf};
+ghost use Rattle.words.specs.Order.{wordOrder};
+ghost use Rattle.overlaps.specs.Overlaps.{leads, overlaps};
+ghost use Rattle.acceptance.specs.Check.{thenJudge, basisJudged, sumsVerdict};
+ghost use Rattle.checking.specs.Heads.{HeadsOf};
+ghost use Rattle.checking.specs.Lines.{sumsAt};
+ghost use Rattle.checking.specs.Judged.{Reached, Places};
+ghost use Rattle.checking.specs.Answer.{answerOf, lapsVerdict, relationsVerdict, relationsIn, basisIn, PackageLies, SumsStart, HeadRoom};
+
+// 15, then the sums of the overlaps: the lines of kind O stand from the place at on.
+pub fn judge_laps(
+    h: Head,
+    heads: &[usize],
+    headlens: &[usize],
+    coefs: &[u32],
+    starts: &[usize],
+    lens: &[usize],
+    bytes: &[u8],
+    firsts: &[usize],
+    m: usize,
+    at: usize,
+    line: usize,
+    c: &mut [u32],
+    l: &mut [usize],
+    w: &mut [u8],
+    o: &mut [usize],
+    buf: &mut [u8],
+    lap: &mut [u8],
+) -> Checked
+    requires { ⌜ PackageLies h (now coefs) (now starts) (now lens) (now bytes) (now firsts) m ⌝ }
+    requires { ⌜ HeadsOf (now coefs) (now starts) (now lens) (now bytes) (now firsts) (h .gens + 1) (h .basis) (now heads) (now headlens) ⌝ }
+    requires { ⌜ Reached h 3 1 (now bytes) at line ⌝ }
+    requires { ⌜ Places (now c) (now l) (now w) (now o) (now buf) ⌝ }
+    requires { ⌜ 72 ≤ length (now lap) ⌝ }
+    ensures { λ r. ⌜
+        r
+        ≡ answerOf
+        (lapsVerdict (fieldOf (h .p)) wordOrder (basisIn h (now (coefs .entry)) (now (starts .entry)) (now (lens .entry)) (now (bytes .entry)) (now (firsts .entry))) (sumsAt (now (bytes .entry)) at line))
+        (length (overlaps (leads (basisIn h (now (coefs .entry)) (now (starts .entry)) (now (lens .entry)) (now (bytes .entry)) (now (firsts .entry))))))
+        ⌝ }
+{
+    let base = h.gens as usize + 1;
+    let basis = h.basis as usize;
+    let count = count_overlaps(heads, headlens, bytes, basis);
+    let a = judge_items(bytes, at, line, count);
+    if a != 0 {
+        return Checked::Rejected {
+            number: 15,
+            place: a,
+        };
+    }
+    let r = judge_overlaps(
+        h,
+        heads,
+        headlens,
+        coefs,
+        starts,
+        lens,
+        bytes,
+        firsts,
+        base,
+        basis,
+        m,
+        at,
+        line,
+        c,
+        l,
+        w,
+        o,
+        buf,
+        lap,
+    );
+    if let SumsAnswer::Refused { number, place } = r {
+        return Checked::Rejected {
+            number: number,
+            place: place,
+        };
+    }
+    Checked::Accepted { count: count }
+}
+
+// The G sums, then these.
+pub fn judge_relations(
+    h: Head,
+    heads: &[usize],
+    headlens: &[usize],
+    coefs: &[u32],
+    starts: &[usize],
+    lens: &[usize],
+    bytes: &[u8],
+    firsts: &[usize],
+    m: usize,
+    at: usize,
+    line: usize,
+    c: &mut [u32],
+    l: &mut [usize],
+    w: &mut [u8],
+    o: &mut [usize],
+    buf: &mut [u8],
+    lap: &mut [u8],
+) -> Checked
+    requires { ⌜ PackageLies h (now coefs) (now starts) (now lens) (now bytes) (now firsts) m ⌝ }
+    requires { ⌜ HeadsOf (now coefs) (now starts) (now lens) (now bytes) (now firsts) (h .gens + 1) (h .basis) (now heads) (now headlens) ⌝ }
+    requires { ⌜ Reached h 2 1 (now bytes) at line ⌝ }
+    requires { ⌜ Places (now c) (now l) (now w) (now o) (now buf) ⌝ }
+    requires { ⌜ 72 ≤ length (now lap) ⌝ }
+    ensures { λ r. ⌜
+        r
+        ≡ answerOf
+        (relationsVerdict (fieldOf (h .p)) wordOrder (relationsIn h (now (coefs .entry)) (now (starts .entry)) (now (lens .entry)) (now (bytes .entry)) (now (firsts .entry))) (basisIn h (now (coefs .entry)) (now (starts .entry)) (now (lens .entry)) (now (bytes .entry)) (now (firsts .entry))) (sumsAt (now (bytes .entry)) at line))
+        (length (overlaps (leads (basisIn h (now (coefs .entry)) (now (starts .entry)) (now (lens .entry)) (now (bytes .entry)) (now (firsts .entry))))))
+        ⌝ }
+{
+    let gens = h.gens as usize;
+    let basis = h.basis as usize;
+    let r = judge_sums(
+        h,
+        12,
+        2,
+        coefs,
+        starts,
+        lens,
+        bytes,
+        firsts,
+        1,
+        gens,
+        gens + 1,
+        basis,
+        m,
+        at,
+        line,
+        c,
+        l,
+        w,
+        o,
+        buf,
+    );
+    match r {
+        SumsAnswer::Refused { number, place } => Checked::Rejected {
+            number: number,
+            place: place,
+        },
+        SumsAnswer::Passed { at: x, line: n } => judge_laps(
+            h,
+            heads,
+            headlens,
+            coefs,
+            starts,
+            lens,
+            bytes,
+            firsts,
+            m,
+            x,
+            n,
+            c,
+            l,
+            w,
+            o,
+            buf,
+            lap,
+        ),
+    }
+}
+
+// The B sums, then these.
+pub fn judge_package(
+    h: Head,
+    heads: &[usize],
+    headlens: &[usize],
+    coefs: &[u32],
+    starts: &[usize],
+    lens: &[usize],
+    bytes: &[u8],
+    firsts: &[usize],
+    m: usize,
+    at: usize,
+    line: usize,
+    c: &mut [u32],
+    l: &mut [usize],
+    w: &mut [u8],
+    o: &mut [usize],
+    buf: &mut [u8],
+    lap: &mut [u8],
+) -> Checked
+    requires { ⌜ PackageLies h (now coefs) (now starts) (now lens) (now bytes) (now firsts) m ⌝ }
+    requires { ⌜ HeadsOf (now coefs) (now starts) (now lens) (now bytes) (now firsts) (h .gens + 1) (h .basis) (now heads) (now headlens) ⌝ }
+    requires { ⌜ SumsStart h (now bytes) at line ⌝ }
+    requires { ⌜ Places (now c) (now l) (now w) (now o) (now buf) ⌝ }
+    requires { ⌜ 72 ≤ length (now lap) ⌝ }
+    ensures { λ r. ⌜
+        r
+        ≡ answerOf
+        (sumsVerdict (fieldOf (h .p)) wordOrder (relationsIn h (now (coefs .entry)) (now (starts .entry)) (now (lens .entry)) (now (bytes .entry)) (now (firsts .entry))) (basisIn h (now (coefs .entry)) (now (starts .entry)) (now (lens .entry)) (now (bytes .entry)) (now (firsts .entry))) (sumsAt (now (bytes .entry)) at line))
+        (length (overlaps (leads (basisIn h (now (coefs .entry)) (now (starts .entry)) (now (lens .entry)) (now (bytes .entry)) (now (firsts .entry))))))
+        ⌝ }
+{
+    let gens = h.gens as usize;
+    let basis = h.basis as usize;
+    let r = judge_sums(
+        h,
+        11,
+        1,
+        coefs,
+        starts,
+        lens,
+        bytes,
+        firsts,
+        gens + 1,
+        basis,
+        1,
+        gens,
+        m,
+        at,
+        line,
+        c,
+        l,
+        w,
+        o,
+        buf,
+    );
+    match r {
+        SumsAnswer::Refused { number, place } => Checked::Rejected {
+            number: number,
+            place: place,
+        },
+        SumsAnswer::Passed { at: x, line: n } => judge_relations(
+            h,
+            heads,
+            headlens,
+            coefs,
+            starts,
+            lens,
+            bytes,
+            firsts,
+            m,
+            x,
+            n,
+            c,
+            l,
+            w,
+            o,
+            buf,
+            lap,
+        ),
+    }
+}
+
+// The check: 8 and 9, then the sums.
+pub fn check(
+    h: Head,
+    coefs: &[u32],
+    starts: &[usize],
+    lens: &[usize],
+    bytes: &[u8],
+    firsts: &[usize],
+    m: usize,
+    at: usize,
+    line: usize,
+    heads: &mut [usize],
+    headlens: &mut [usize],
+    c: &mut [u32],
+    l: &mut [usize],
+    w: &mut [u8],
+    o: &mut [usize],
+    buf: &mut [u8],
+    lap: &mut [u8],
+) -> Checked
+    requires { ⌜ PackageLies h (now coefs) (now starts) (now lens) (now bytes) (now firsts) m ⌝ }
+    requires { ⌜ SumsStart h (now bytes) at line ⌝ }
+    requires { ⌜ HeadRoom h (now heads) (now headlens) ⌝ }
+    requires { ⌜ Places (now c) (now l) (now w) (now o) (now buf) ⌝ }
+    requires { ⌜ 72 ≤ length (now lap) ⌝ }
+    ensures { λ r. ⌜
+        r
+        ≡ answerOf
+        (thenJudge (basisJudged (basisIn h (now (coefs .entry)) (now (starts .entry)) (now (lens .entry)) (now (bytes .entry)) (now (firsts .entry))))
+        (sumsVerdict (fieldOf (h .p)) wordOrder (relationsIn h (now (coefs .entry)) (now (starts .entry)) (now (lens .entry)) (now (bytes .entry)) (now (firsts .entry))) (basisIn h (now (coefs .entry)) (now (starts .entry)) (now (lens .entry)) (now (bytes .entry)) (now (firsts .entry))) (sumsAt (now (bytes .entry)) at line)))
+        (length (overlaps (leads (basisIn h (now (coefs .entry)) (now (starts .entry)) (now (lens .entry)) (now (bytes .entry)) (now (firsts .entry))))))
+        ⌝ }
+{
+    let b = judge_basis(h, coefs, starts, lens, bytes, firsts, m, heads, headlens);
+    if let BasisAnswer::Unsound { number, place } = b {
+        return Checked::Rejected {
+            number: number,
+            place: place,
+        };
+    }
+    judge_package(
+        h,
+        heads,
+        headlens,
+        coefs,
+        starts,
+        lens,
+        bytes,
+        firsts,
+        m,
+        at,
+        line,
+        c,
+        l,
+        w,
+        o,
+        buf,
+        lap,
+    )
+}
