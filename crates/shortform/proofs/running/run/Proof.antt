@@ -112,7 +112,8 @@ returns-2 c =
     let t = x .before .before in
     let m = top t in
     let z = start m in
-    progress-spent (m .loop .inv .1) (z .pre .1 .1 .0) _ _ _ (rw (x .next .given .1) at (t .find-target .ensures)) (c .if1 .taken)
+    let u = c .if1 .taken in
+    progress-spent (m .loop .inv .1) (z .pre .1 .1 .0) _ _ _ (rw (x .next .given .1) at (t .find-target .ensures)) (omega arith)
 
 step-requires : tie.Need-step-requires Inv-loop μ-loop
 step-requires c κs =
@@ -189,8 +190,9 @@ returns-3 c =
     let h = m .loop .inv .1 in
     let q = h .within in
     let n = e .if1 .left in
+    let u = c .if2 .taken in
     let d = rw (x .next .given .1) at (t .find-target .ensures) in
-    progress-over h (z .pre .1 .1 .0) _ _ _ d (omega arith) _ _ _ _ (s .step .result) (s .step .ensures .1 .1) (c .if2 .taken)
+    progress-over h (z .pre .1 .1 .0) _ _ _ d (omega arith) _ _ _ _ (s .step .result) (s .step .ensures .1 .1) (omega arith)
 
 loop-less : tie.Need-loop-less Inv-loop μ-loop
 loop-less c =

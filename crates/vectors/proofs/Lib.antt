@@ -1,0 +1,3 @@
+-- The laws that this crate's functions are proved by.
+pub mod Kept
+pub mod Parts

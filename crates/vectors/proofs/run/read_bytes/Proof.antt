@@ -1,0 +1,34 @@
+-- `read_bytes`: the part lent has as many bytes as are asked for.
+use Rattle.vectors.proofs.Parts.{part-length}
+use borrow.Author.Needs.{needs}
+use Rattle.vectors.proofs.run.read_bytes.Statement.{statement}
+use Rattle.vectors.proofs.run.read_bytes.Tie as tie
+
+add-end : tie.Need-add-end
+add-end c = search needs
+
+slice-relend-prefix-read-full : tie.Need-slice-relend-prefix-read-full
+slice-relend-prefix-read-full c = search needs
+
+slice-aggregate-read-full : tie.Need-slice-aggregate-read-full
+slice-aggregate-read-full c = part-length _ _ (search needs)
+
+read-full-requires : tie.Need-read-full-requires
+read-full-requires c κs = search needs
+
+same-length : tie.Need-same-length
+same-length c = search needs
+
+returns : tie.Need-returns
+returns c = search needs
+
+pub read-bytes-spec : {M : Type 1} → statement M
+read-bytes-spec =
+    tie.close
+    (tie.spec
+    add-end
+    slice-relend-prefix-read-full
+    slice-aggregate-read-full
+    read-full-requires
+    same-length
+    returns)
