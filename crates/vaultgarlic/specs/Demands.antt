@@ -1,4 +1,4 @@
--- What the three demands say of the services' answers (document 01, 'Demands' and 'What demand 3 compares').
+-- What the three demands on the services say of their answers (document 01, 'What demand 3 compares').
 use mathlib.Core.Path.{_≡_}
 use mathlib.Core.List.{List, [], _∷_}
 use Prim.Native.Nat.{ℕ}
