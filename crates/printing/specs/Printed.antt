@@ -20,7 +20,7 @@ numberThen n end = writeNumber n ++ (end ∷ [])
 -- The line of a refusal: fields parted by one space, ended by byte 10.
 unfoldable pub refusedLine : ℕ → ℕ → List ℕ
 unfolding writeNumber
-refusedLine number place = ascii "refused " ++ (numberThen number 32 ++ numberThen place 32)
+refusedLine number place = ascii "refused " ++ (numberThen number 32 ++ numberThen place 10)
 
 -- The list of a package that is not refused.
 unfoldable pub listOf : Outcome → List ℕ
