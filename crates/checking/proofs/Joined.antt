@@ -28,15 +28,15 @@ use Rattle.checking.specs.declared.BasisAnswer.{BasisAnswer}
 use Rattle.checking.specs.declared.BasisAnswer.the-variants.{Unsound, Sound}
 use Rattle.checking.specs.declared.Checked.{Checked}
 use Rattle.checking.specs.declared.Checked.the-variants.{Rejected, Accepted}
-use Rattle.checking.specs.declared.SumsAnswer.{SumsAnswer}
-use Rattle.checking.specs.declared.SumsAnswer.the-variants.{Refused, Passed}
-use Rattle.checking.specs.Told.{told}
-use Rattle.checking.specs.Heads.{HeadsOf}
-use Rattle.checking.specs.Lines.{sumsAt, Counted, uncounted, counted}
-use Rattle.checking.specs.Judged.{verdictOf, Past, all-left, one-past, Reached, LeftBehind, Sides}
+use Rattle.summing.specs.declared.SumsAnswer.{SumsAnswer}
+use Rattle.summing.specs.declared.SumsAnswer.the-variants.{Refused, Passed}
+use Rattle.sumlines.specs.Told.{told}
+use Rattle.sumlines.specs.Heads.{HeadsOf}
+use Rattle.sumlines.specs.Lines.{sumsAt, Counted, uncounted, counted}
+use Rattle.summing.specs.Judged.{verdictOf, Past, all-left, one-past, Reached, LeftBehind, Sides}
 use Rattle.checking.specs.Answer.{answerOf, basisVerdict, HeadsWhere, lapsVerdict, relationsVerdict, PackageLies, SumsStart}
-use Rattle.checking.proofs.LineOrder.{sums-skip, follows-order, relabelled}
-use Rattle.checking.proofs.OverlapsJudging.{overlaps-skip}
+use Rattle.summing.proofs.LineOrder.{sums-skip, follows-order, relabelled}
+use Rattle.summing.proofs.OverlapsJudging.{overlaps-skip}
 
 -- A number that names an item is a refusal; 0 is none.
 pub told-refused : (n r : ℕ) (v : Verdict) → told n r ≡ v → r ≢ 0 → v ≡ refusal n r

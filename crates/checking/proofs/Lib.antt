@@ -1,13 +1,1 @@
-pub mod LeadingHeads
-pub mod HeldWords
-pub mod LineReading
-pub mod AboveCount
-pub mod Targets
-pub mod LineOrder
-pub mod SumsJudging
-pub mod Sizes
-pub mod OverlapWalk
-pub mod OverlapTexts
-pub mod NextLine
-pub mod OverlapsJudging
 pub mod Joined

@@ -20,8 +20,8 @@ use Rattle.checking.specs.declared.BasisAnswer.{BasisAnswer}
 use Rattle.checking.specs.declared.BasisAnswer.the-variants.{Unsound, Sound}
 use Rattle.checking.specs.declared.Checked.{Checked}
 use Rattle.checking.specs.declared.Checked.the-variants.{Rejected, Accepted}
-use Rattle.checking.specs.Heads.{HeadsOf}
-use Rattle.checking.specs.Lines.{sumsAt}
+use Rattle.sumlines.specs.Heads.{HeadsOf}
+use Rattle.sumlines.specs.Lines.{sumsAt}
 
 -- The answer of a verdict: a refusal's number and place, or the overlap count.
 unfoldable pub answerOf : Verdict → ℕ → Checked

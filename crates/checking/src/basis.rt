@@ -1,9 +1,9 @@
 // Refusals 8 and 9: what listing judges too.
 
 use crate::BasisAnswer;
-use crate::holding::first_holding;
-use crate::leading::leading_words;
 use package::Head;
+use sumlines::holding::first_holding;
+use sumlines::leading::leading_words;
 ghost use mathlib.Core.Path.{_≡_};
 ghost use Prim.Native.Nat.{_+_};
 ghost use Rattle.acceptance.specs.Check.{basisJudged};

@@ -2,13 +2,13 @@
 
 use crate::BasisAnswer;
 use crate::Checked;
-use crate::SumsAnswer;
 use crate::basis::judge_basis;
-use crate::item_lines::judge_items;
-use crate::overlap_at::count_overlaps;
-use crate::overlap_sums::judge_overlaps;
-use crate::sums::judge_sums;
+use overlapwords::overlap_at::count_overlaps;
 use package::Head;
+use sumlines::item_lines::judge_items;
+use summing::SumsAnswer;
+use summing::overlap_sums::judge_overlaps;
+use summing::sums::judge_sums;
 ghost use mathlib.Core.Path.{_≡_};
 ghost use Prim.Native.Nat.{_+_, _≤_};
 ghost use lib.ListN.{length};
@@ -16,9 +16,10 @@ ghost use Rattle.field.specs.Field.{fieldOf};
 ghost use Rattle.words.specs.Order.{wordOrder};
 ghost use Rattle.overlaps.specs.Overlaps.{leads, overlaps};
 ghost use Rattle.acceptance.specs.Check.{thenJudge, basisJudged, sumsVerdict};
-ghost use Rattle.checking.specs.Heads.{HeadsOf};
-ghost use Rattle.checking.specs.Lines.{sumsAt};
-ghost use Rattle.checking.specs.Judged.{Reached, Places};
+ghost use Rattle.sumlines.specs.Heads.{HeadsOf};
+ghost use Rattle.sumlines.specs.Lines.{sumsAt};
+ghost use Rattle.summing.specs.Judged.{Reached};
+ghost use Rattle.sumlines.specs.Room.{Places};
 ghost use Rattle.checking.specs.Answer.{answerOf, lapsVerdict, relationsVerdict, relationsIn, basisIn, PackageLies, SumsStart, HeadRoom};
 
 // 15, then the sums of the overlaps: the lines of kind O stand from the place at on.

@@ -13,7 +13,7 @@ use Rattle.overlaps.specs.Listing.{overlapText}
 use Rattle.package.specs.Package.{Package, Outcome, refused, read, readPackage}
 use Rattle.acceptance.specs.Content.{basis}
 use Rattle.acceptance.specs.Check.{Verdict, refusal, fine, thenJudge, leadsJudged, apartJudged, basisJudged}
-use Rattle.checking.specs.Told.{told}
+use Rattle.sumlines.specs.Told.{told}
 use Rattle.vaultgarlic.specs.declared.Listed.{Listed}
 use Rattle.vaultgarlic.specs.Services.{judgedBy, listable, wordsListed, fitted, listAnswer, listOutput, listedAs, listedInto}
 use Rattle.vaultgarlic.specs.ListingParts.{verdictListed, verdictOutput, basisListed, basisOutput}

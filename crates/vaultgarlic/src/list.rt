@@ -1,12 +1,12 @@
 // vg_list_overlaps: the overlaps of a package's leading words, as the text of document 01.
 
 use crate::Listed;
-use checking::holding::first_holding;
-use checking::leading::leading_words;
 use overlaps::listing::measure;
 use overlaps::listing::write_list;
 use package::Reading;
 use package::read::read_package;
+use sumlines::holding::first_holding;
+use sumlines::leading::leading_words;
 ghost use mathlib.Core.Path.{_≡_};
 ghost use Prim.Native.Nat.{_+_, _≤_, _<_};
 ghost use lib.ListN.{length};

@@ -7,7 +7,7 @@ use Rattle.words.specs.Word.{Word}
 use Rattle.overlaps.specs.Overlaps.{overlaps}
 use Rattle.acceptance.specs.Check.{itemsJudged}
 use Rattle.checking.specs.declared.Checked.the-variants.{Accepted}
-use Rattle.checking.specs.Lines.{sumsAt}
+use Rattle.sumlines.specs.Lines.{sumsAt}
 use Rattle.checking.proofs.Joined.{told-refused, told-fine, then-refused, then-fine, answer-refused, answer-fine, sums-refused, sums-passed, laps-are, order-counted, overlap-side}
 use Rattle.checking.proofs.check.judge_laps.Statement.{statement}
 use Rattle.checking.proofs.check.judge_laps.Tie as tie

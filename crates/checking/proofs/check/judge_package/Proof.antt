@@ -4,7 +4,7 @@ use mathlib.Core.Path.{_≡_, sym, ap, _∙_}
 use mathlib.Core.Logic.{_≢_}
 use Prim.Native.Nat.{ℕ}
 use native.Mathlib.Omega.{arith}
-use Rattle.checking.proofs.Sizes.{kept-sizes, kept-places}
+use Rattle.sumlines.proofs.Sizes.{kept-sizes, kept-places}
 use Rattle.checking.proofs.Joined.{then-refused, then-fine, answer-refused, answer-same, sums-refused, sums-passed, sums-left, basis-side, reached-first, reached-second, sums-are, past-relations}
 use Rattle.checking.proofs.check.judge_package.Statement.{statement}
 use Rattle.checking.proofs.check.judge_package.Tie as tie

@@ -1,0 +1,2 @@
+pub mod OverlapWalk
+pub mod OverlapTexts

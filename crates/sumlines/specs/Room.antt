@@ -1,0 +1,11 @@
+-- Room for the working formula.
+use mathlib.Core.List.{List}
+use Prim.Native.Nat.{ℕ, _≤_}
+use lib.ListN.{length}
+use Rattle.working.specs.Working.{Room}
+
+-- The places of the working formula, and room for one word.
+pub record Places (c l w o buf : List ℕ) : Type 0 where
+  pub room : Room c l w (length o)
+  pub many : 560 ≤ length o
+  pub buffer : 72 ≤ length buf

@@ -1,0 +1,82 @@
+// The sum line that stands at a place of the bytes.
+
+use crate::SumAt;
+use package::SumRead;
+use package::sum_lines::read_sum;
+use text::bytes::find;
+ghost use mathlib.Core.Path.{_≡_};
+ghost use mathlib.Core.Bool.{true, false};
+ghost use Prim.Native.Nat.{ℕ, _≤_};
+ghost use lib.ListN.{length};
+ghost use Rattle.sumlines.specs.Lines.{sumsAt, heldFrom, NumberedFrom, ItemLine, Inside};
+
+// The answer where no line stands.
+fn no_line() -> SumAt
+    ensures { λ r. ⌜ r .present ≡ false ⌝ }
+{
+    SumAt {
+        present: false,
+        kind: 0,
+        item: 0,
+        coef: 0,
+        left: 0,
+        leftlen: 0,
+        of: 0,
+        right: 0,
+        rightlen: 0,
+        next: 0,
+    }
+}
+
+// The sum line from the place at on.
+pub fn line_at(bytes: &[u8], at: usize) -> SumAt
+    requires { ⌜ at ≤ length (now bytes) ⌝ }
+    ensures { λ r. ⌜ ((n : ℕ) → NumberedFrom n (sumsAt (now (bytes .entry)) at n) → heldFrom (now (bytes .entry)) n r ≡ sumsAt (now (bytes .entry)) at n) ⌝ }
+    ensures { λ r. ⌜ (r .present ≡ true → Inside (now (bytes .entry)) at r) ⌝ }
+{
+    let e = find(bytes, at, 10);
+    if bytes.len() <= e {
+        return no_line();
+    }
+    let SumRead::Sum {
+        kind,
+        item,
+        coef,
+        left,
+        left_len,
+        of,
+        right,
+        right_len,
+    } = read_sum(&bytes[at..e])
+    else {
+        return no_line();
+    };
+    SumAt {
+        present: true,
+        kind: kind,
+        item: item as usize,
+        coef: coef,
+        left: at + left,
+        leftlen: left_len,
+        of: of as usize,
+        right: at + right,
+        rightlen: right_len,
+        next: e + 1,
+    }
+}
+
+// The sum line from the place at on, if it is one of the item of the kind.
+pub fn item_line(bytes: &[u8], at: usize, kind: u32, item: usize) -> SumAt
+    requires { ⌜ at ≤ length (now bytes) ⌝ }
+    ensures { λ r. ⌜ ((n : ℕ) → NumberedFrom n (sumsAt (now (bytes .entry)) at n) → ItemLine (now (bytes .entry)) n kind item (sumsAt (now (bytes .entry)) at n) r) ⌝ }
+    ensures { λ r. ⌜ (r .present ≡ true → Inside (now (bytes .entry)) at r) ⌝ }
+{
+    let s = line_at(bytes, at);
+    if s.kind != kind {
+        return no_line();
+    }
+    if s.item != item {
+        return no_line();
+    }
+    s
+}

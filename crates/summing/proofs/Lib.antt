@@ -1,0 +1,4 @@
+pub mod LineOrder
+pub mod NextLine
+pub mod SumsJudging
+pub mod OverlapsJudging

@@ -1,0 +1,185 @@
+-- The sums of the overlaps, overlap by overlap and line by line: what is left to judge gives the verdict.
+use mathlib.Core.Path.{_≡_, refl, sym, ap, _∙_}
+use mathlib.Core.Bool.{Bool, true, false, true≢false}
+use mathlib.Core.Logic.{_≢_, _⊎_, inl, inr}
+use mathlib.Core.List.{List, [], _∷_}
+use Prim.Native.Nat.{ℕ, zero, suc, _+_, _≤_, _<_}
+use native.Mathlib.Numerals.{add-one}
+use native.Mathlib.Omega.{arith}
+use lib.ListN.{length}
+use borrow.Author.Tests.{lt-ltb, le-ltb}
+use Rattle.field.specs.Field.{Operations, fieldOf}
+use Rattle.words.specs.declared.Comparison.{Comparison}
+use Rattle.words.specs.declared.Comparison.the-variants.{Below, Equal, Above}
+use Rattle.words.specs.Word.{Word}
+use Rattle.words.specs.Order.{Order, wordOrder}
+use Rattle.algebra.specs.Poly.{Poly}
+use Rattle.algebra.specs.Ideal.{Family}
+use Rattle.algebra.specs.Groebner.{top}
+use Rattle.algebra.specs.Written.{written}
+use Rattle.algebra.specs.Steps.{takeAway}
+use Rattle.overlaps.specs.Overlaps.{Overlap, overlaps, overlapWord, difference}
+use Rattle.overlaps.specs.Position.{overlapsAt, overlapOf, behind}
+use Rattle.package.specs.declared.Head.{Head}
+use Rattle.package.specs.Bounds.{isBelow}
+use Rattle.package.specs.Sums.{SumLine}
+use Rattle.working.specs.Working.{terms, formula}
+use Rattle.acceptance.specs.Content.{sumOf, lineOf}
+use Rattle.acceptance.specs.Check.{Verdict, refusal, fine, thenJudge, over, rest, sumVerdict, notBelow, certified, lessBelow, overlapVerdict, overlapsJudged}
+use Rattle.sumlines.specs.declared.SumAt.{SumAt}
+use Rattle.overlapwords.specs.declared.OverlapAt.{OverlapAt}
+use Rattle.summing.specs.declared.SumsAnswer.{SumsAnswer}
+use Rattle.sumlines.specs.Lines.{sumsAt, heldLine, NumberedFrom, ItemLine, Inside, takenLine}
+use Rattle.summing.specs.Judged.{verdictOf, Reached}
+use Rattle.overlapwords.specs.OverlapPlaces.{cursorOf, seenOverlaps}
+use Rattle.summing.proofs.LineOrder.{sum-skip}
+use Rattle.summing.proofs.NextLine.{NextLine, next-line, lines-are, its-kind, its-sum, next-reached, no-line-left, next-item}
+use Rattle.overlapwords.proofs.OverlapWalk.{seen-one, seen-none}
+
+is-below : (u v : Word) → isBelow u v ≡ true → wordOrder u v ≡ Below
+unfolding isBelow
+is-below u v = go (wordOrder u v)
+  where
+    go : (o : Comparison) → _≡_ {A = Bool} (elim o [ Below ↦ true | Equal ↦ false | Above ↦ false ]) true → o ≡ Below
+    go Below e = refl
+    go Equal e = absurd (true≢false (sym e))
+    go Above e = absurd (true≢false (sym e))
+
+not-below : (u v : Word) → isBelow u v ≡ false → (wordOrder u v ≡ Equal) ⊎ (wordOrder u v ≡ Above)
+unfolding isBelow
+not-below u v = go (wordOrder u v)
+  where
+    go : (o : Comparison) → _≡_ {A = Bool} (elim o [ Below ↦ true | Equal ↦ false | Above ↦ false ]) false → (o ≡ Equal) ⊎ (o ≡ Above)
+    go Below e = absurd (true≢false e)
+    go Equal e = inl refl
+    go Above e = inr refl
+
+-- one line of an overlap
+module _ (K : Operations) (G : Family) (m : Word) (f : Poly) (s : SumLine) (ss : List SumLine) where
+  less-not : isBelow (top G (lineOf s)) m ≡ false → lessBelow K wordOrder G m f (s ∷ ss) ≡ notBelow (s .line)
+  unfolding lessBelow
+  less-not e = go (not-below (top G (lineOf s)) m e)
+    where
+      go : (wordOrder (top G (lineOf s)) m ≡ Equal) ⊎ (wordOrder (top G (lineOf s)) m ≡ Above) → lessBelow K wordOrder G m f (s ∷ ss) ≡ notBelow (s .line)
+      go (inl d) = rw (lessBelow, d)
+      go (inr d) = rw (lessBelow, d)
+
+  less-over : isBelow (top G (lineOf s)) m ≡ true → 512 < length (takeAway K wordOrder G f (lineOf s)) → lessBelow K wordOrder G m f (s ∷ ss) ≡ certified (over (s .line))
+  unfolding lessBelow
+  less-over e h = rw (lessBelow, is-below (top G (lineOf s)) m e, lt-ltb 512 (length (takeAway K wordOrder G f (lineOf s))) h)
+
+  less-more : isBelow (top G (lineOf s)) m ≡ true → length (takeAway K wordOrder G f (lineOf s)) ≤ 512
+      → lessBelow K wordOrder G m f (s ∷ ss) ≡ lessBelow K wordOrder G m (takeAway K wordOrder G f (lineOf s)) ss
+  unfolding lessBelow
+  less-more e h = rw (lessBelow, is-below (top G (lineOf s)) m e, le-ltb 512 (length (takeAway K wordOrder G f (lineOf s))) h)
+
+-- the verdict of an overlap of which no line is left
+sum-right : (i : ℕ) (K : Operations) (G : Family) (m : Word) (c l w o : List ℕ) → overlapVerdict i (lessBelow K wordOrder G m (formula c l w o 0) []) ≡ fine
+unfolding overlapVerdict sumVerdict lessBelow terms
+sum-right i K G m c l w o = refl
+
+sum-wrong : (i : ℕ) (K : Operations) (G : Family) (m : Word) (c l w o : List ℕ) (n : ℕ) → 0 < n → overlapVerdict i (lessBelow K wordOrder G m (formula c l w o n) []) ≡ refusal 13 i
+unfolding overlapVerdict sumVerdict lessBelow terms
+sum-wrong i K G m c l w o zero h = absurd (omega arith)
+sum-wrong i K G m c l w o (suc n) h = refl
+
+-- a line of an earlier overlap is none of those left
+pub overlaps-skip : (K : Operations) (O : Order) (G : Family) (s : SumLine) (ss : List SumLine) (os : List Overlap) (i : ℕ) → (s .kind ≡ 3 → s .item < i)
+    → overlapsJudged K O G (s ∷ ss) os i ≡ overlapsJudged K O G ss os i
+unfolding overlapsJudged
+overlaps-skip K O G s ss [] i h = refl
+overlaps-skip K O G s ss (o ∷ os) i h =
+    let d : s .kind ≡ 3 → s .item ≢ i = λ e q. let z = h e in omega arith in
+    rw (sum-skip 3 i s ss d, overlaps-skip K O G s ss os (suc i) (λ e. let z = h e in omega arith))
+
+module _ (h : Head) (bytes : List ℕ) (G : Family) (ws : List Word) (whole : Verdict) where
+  abbrev K : Operations
+  K = fieldOf (h .p)
+
+  abbrev lapOf : OverlapAt → Overlap
+  lapOf f = overlapOf (cursorOf f)
+
+  -- what the overlaps behind f, from number i + 2 on, are judged by the lines ss
+  abbrev laterOverlaps : List SumLine → OverlapAt → ℕ → Verdict
+  laterOverlaps ss f i = overlapsJudged K wordOrder G ss (overlapsAt ws (behind (cursorOf f))) (i + 1 + 1)
+
+  -- the same with f, number i + 1, whose sum has come to g
+  abbrev fromLines : List SumLine → OverlapAt → ℕ → Poly → Verdict
+  fromLines ss f i g = thenJudge (overlapVerdict (i + 1) (lessBelow K wordOrder G (overlapWord G (lapOf f)) g (sumOf 3 (i + 1) ss))) (laterOverlaps ss f i)
+
+  -- The first i overlaps passed, and f is the next.
+  pub record OverlapsDone (at line i : ℕ) (f : OverlapAt) (answer : SumsAnswer) : Type 0 where
+    pub reached : Reached h 3 (i + 1) bytes at line
+    pub same : overlapsJudged K wordOrder G (sumsAt bytes at line) (seenOverlaps ws f) (i + 1) ≡ whole
+    pub told : verdictOf answer ≡ fine
+
+  -- In overlap f, number i + 1, lines were taken away, and g is left; s is the next of its lines.
+  pub record LapLinesDone (at line i : ℕ) (f : OverlapAt) (g : Poly) (s : SumAt) : Type 0 where
+    pub next : NextLine h 3 (i + 1) bytes at line s
+    pub same : fromLines (sumsAt bytes at line) f i g ≡ whole
+
+  pub lap-start : (at line i : ℕ) (f : OverlapAt) (answer : SumsAnswer) → OverlapsDone at line i f answer → f .present ≡ true → (g : Poly) → g ≡ written K wordOrder (difference K G (lapOf f)) → (s : SumAt)
+      → (s .present ≡ true → Inside bytes at s)
+      → ((n : ℕ) → NumberedFrom n (sumsAt bytes at n) → ItemLine bytes n 3 (i + 1) (sumsAt bytes at n) s)
+      → LapLinesDone at line i f g s
+  unfolding overlapsJudged
+  lap-start at line i f answer d p g e s x t = record {
+    next = next-line h 3 (i + 1) bytes at line s (d .reached) x t;
+    same = rw (e, add-one (i + 1)) (rw (seen-one ws f p) at (d .same));
+  }
+
+  module _ (at line i : ℕ) (f : OverlapAt) (g : Poly) (s : SumAt) (d : LapLinesDone at line i f g s) where
+    abbrev m : Word
+    m = overlapWord G (lapOf f)
+
+    module _ (p : s .present ≡ true) where
+      abbrev x : SumLine
+      x = heldLine bytes line s
+
+      abbrev ss′ : List SumLine
+      ss′ = sumsAt bytes (s .next) (suc line)
+
+      with-line : thenJudge (overlapVerdict (i + 1) (lessBelow K wordOrder G m g (x ∷ sumOf 3 (i + 1) ss′))) (laterOverlaps (x ∷ ss′) f i) ≡ whole
+      with-line = rw (its-sum h 3 (i + 1) bytes at line s (d .next) p) at (rw (lines-are h 3 (i + 1) bytes at line s (d .next) p) at (d .same))
+
+      pub lap-not : isBelow (top G (takenLine bytes s)) m ≡ false → refusal 14 line ≡ whole
+      unfolding thenJudge overlapVerdict
+      lap-not e = rw (less-not K G m g x (sumOf 3 (i + 1) ss′) e) at with-line
+
+      module _ (e : isBelow (top G (takenLine bytes s)) m ≡ true) (g′ : Poly) (q : g′ ≡ takeAway K wordOrder G g (takenLine bytes s)) where
+        pub lap-over : 512 < length g′ → refusal 10 line ≡ whole
+        unfolding thenJudge overlapVerdict sumVerdict
+        lap-over l = rw (less-over K G m g x (sumOf 3 (i + 1) ss′) e (rw q at l)) at with-line
+
+        pub lap-next : length g′ ≤ 512 → (s′ : SumAt) → (s′ .present ≡ true → Inside bytes (s .next) s′)
+            → ((n : ℕ) → NumberedFrom n (sumsAt bytes (s .next) n) → ItemLine bytes n 3 (i + 1) (sumsAt bytes (s .next) n) s′)
+            → LapLinesDone (s .next) (line + 1) i f g′ s′
+        lap-next l s′ y t =
+            let skip : laterOverlaps (x ∷ ss′) f i ≡ laterOverlaps ss′ f i = overlaps-skip K wordOrder G x ss′ (overlapsAt ws (behind (cursorOf f))) (i + 1 + 1) (λ r. let z = its-kind h 3 (i + 1) bytes at line s (d .next) p .1 in omega arith) in
+            record {
+              next = next-line h 3 (i + 1) bytes (s .next) (line + 1) s′ (next-reached h 3 (i + 1) bytes at line s (d .next) p) y t;
+              same = rw (q, add-one line) (rw (less-more K G m g x (sumOf 3 (i + 1) ss′) e (rw q at l), skip) at with-line);
+            }
+
+    module _ (p : s .present ≡ false) where
+      without : thenJudge (overlapVerdict (i + 1) (lessBelow K wordOrder G m g [])) (laterOverlaps (sumsAt bytes at line) f i) ≡ whole
+      without = rw (no-line-left h 3 (i + 1) bytes at line s (d .next) p) at (d .same)
+
+      pub lap-wrong : (c l w o : List ℕ) (n : ℕ) → g ≡ formula c l w o n → 0 < n → refusal 13 (i + 1) ≡ whole
+      unfolding thenJudge
+      lap-wrong c l w o n e z = rw (e, sum-wrong (i + 1) K G m c l w o n z) at without
+
+      pub lap-end : (c l w o : List ℕ) (n : ℕ) → g ≡ formula c l w o n → n ≤ 0 → (f′ : OverlapAt) → seenOverlaps ws f′ ≡ overlapsAt ws (behind (cursorOf f)) → (answer : SumsAnswer) → verdictOf answer ≡ fine
+          → OverlapsDone at line (i + 1) f′ answer
+      unfolding thenJudge
+      lap-end c l w o n e z f′ y answer v =
+          let q : n ≡ 0 = omega arith in
+          record {
+            reached = next-item h 3 (i + 1) bytes at line s (d .next) p;
+            same = rw y (rw (e, q, sum-right (i + 1) K G m c l w o) at without);
+            told = v;
+          }
+
+  pub overlaps-end : (at line i : ℕ) (f : OverlapAt) (answer : SumsAnswer) → OverlapsDone at line i f answer → f .present ≡ false → verdictOf answer ≡ whole
+  unfolding overlapsJudged
+  overlaps-end at line i f answer d p = d .told ∙ rw (seen-none ws f p) at (d .same)

@@ -1,0 +1,149 @@
+-- The sums of a kind, item by item and line by line: what is reached, and that what is left to judge gives the verdict.
+use mathlib.Core.Path.{_≡_, refl, sym, ap, subst, _∙_}
+use mathlib.Core.Bool.{Bool, true, false, true≢false}
+use mathlib.Core.List.{List, [], _∷_}
+use Prim.Native.Nat.{ℕ, zero, suc, _+_, _≤_, _<_}
+use native.Mathlib.Numerals.{add-one}
+use native.Mathlib.Omega.{arith}
+use lib.Dec.{ltb}
+use lib.ListN.{length, getD, drop, drop-of-length-le}
+use lib.Seq.{drop-cons}
+use borrow.Author.Tests.{lt-ltb, le-ltb}
+use Rattle.field.specs.Field.{Operations, fieldOf}
+use Rattle.words.specs.Order.{Order, wordOrder}
+use Rattle.algebra.specs.Poly.{Poly}
+use Rattle.algebra.specs.Ideal.{Family, family, Line}
+use Rattle.algebra.specs.Steps.{takeAway}
+use Rattle.working.specs.Working.{terms, termAt, formula, Working}
+use Rattle.working.proofs.Terms.{terms-length}
+use Rattle.package.specs.declared.Head.{Head}
+use Rattle.package.specs.Package.{packageLimits}
+use Rattle.package.specs.Sums.{SumLine, ofs}
+use Rattle.package.specs.Readable.{SumInOrder, SumsInOrder}
+use Rattle.acceptance.specs.Content.{sumOf, lineOf}
+use Rattle.acceptance.specs.Check.{Verdict, refusal, fine, thenJudge, over, rest, lessLines, sumVerdict, sumsJudged}
+use Rattle.sumlines.specs.declared.SumAt.{SumAt}
+use Rattle.summing.specs.declared.SumsAnswer.{SumsAnswer}
+use Rattle.summing.specs.declared.SumsAnswer.the-variants.{Refused, Passed}
+use Rattle.sumlines.specs.Lines.{sumsAt, heldLine, NumberedFrom, firstIs, ItemLine, Inside, takenLine, LineFits}
+use Rattle.summing.specs.Judged.{verdictOf, Past, all-left, Reached, LeftBehind}
+use Rattle.summing.proofs.LineOrder.{sums-skip, past-one}
+use Rattle.summing.proofs.NextLine.{NextLine, next-line, lines-are, its-kind, its-sum, next-reached, no-line-left, next-item}
+
+-- one line taken away from a polynomial
+module _ (K : Operations) (O : Order) (G : Family) (f : Poly) (s : SumLine) (ss : List SumLine) where
+  less-over : 512 < length (takeAway K O G f (lineOf s)) → lessLines K O G f (s ∷ ss) ≡ over (s .line)
+  unfolding lessLines
+  less-over h = rw (lessLines, lt-ltb 512 (length (takeAway K O G f (lineOf s))) h)
+
+  less-more : length (takeAway K O G f (lineOf s)) ≤ 512 → lessLines K O G f (s ∷ ss) ≡ lessLines K O G (takeAway K O G f (lineOf s)) ss
+  unfolding lessLines
+  less-more h = rw (lessLines, le-ltb 512 (length (takeAway K O G f (lineOf s))) h)
+
+-- the verdict of an item of which no line is left
+sum-right : (number i : ℕ) (K : Operations) (O : Order) (G : Family) (c l w o : List ℕ) → sumVerdict number i (lessLines K O G (formula c l w o 0) []) ≡ fine
+unfolding sumVerdict lessLines terms
+sum-right number i K O G c l w o = refl
+
+sum-wrong : (number i : ℕ) (K : Operations) (O : Order) (G : Family) (c l w o : List ℕ) (n : ℕ) → 0 < n → sumVerdict number i (lessLines K O G (formula c l w o n) []) ≡ refusal number i
+unfolding sumVerdict lessLines terms
+sum-wrong number i K O G c l w o zero h = absurd (omega arith)
+sum-wrong number i K O G c l w o (suc n) h = refl
+
+module _ (h : Head) (number kind : ℕ) (bytes : List ℕ) (G : Family) (fs : List Poly) (ss₀ : List SumLine) where
+  abbrev K : Operations
+  K = fieldOf (h .p)
+
+  -- what the items from number g + 1 on are judged by the lines ss
+  abbrev itemsFrom : List SumLine → ℕ → Verdict
+  itemsFrom ss g = sumsJudged number kind K wordOrder G ss (drop g fs) (g + 1)
+
+  -- the same, where the sum of item g + 1 has come to f
+  abbrev linesFrom : List SumLine → ℕ → Poly → Verdict
+  linesFrom ss g f = thenJudge (sumVerdict number (g + 1) (lessLines K wordOrder G f (sumOf kind (g + 1) ss))) (itemsFrom ss (g + 1))
+
+  abbrev whole : Verdict
+  whole = sumsJudged number kind K wordOrder G ss₀ fs 1
+
+  -- The first g items passed.
+  pub record ItemsDone (at line g : ℕ) (answer : SumsAnswer) : Type 0 where
+    pub reached : Reached h kind (g + 1) bytes at line
+    pub past : Past kind ss₀ (sumsAt bytes at line)
+    pub same : itemsFrom (sumsAt bytes at line) g ≡ whole
+    pub told : answer ≡ Passed at line
+
+  -- In item g + 1 lines were taken away, and f is left; s is the next of its lines.
+  pub record LinesDone (at line g : ℕ) (f : Poly) (s : SumAt) : Type 0 where
+    pub next : NextLine h kind (g + 1) bytes at line s
+    pub past : Past kind ss₀ (sumsAt bytes at line)
+    pub same : linesFrom (sumsAt bytes at line) g f ≡ whole
+
+  pub items-start : (from line : ℕ) → ss₀ ≡ sumsAt bytes from line → Reached h kind 1 bytes from line → ItemsDone from line 0 (Passed from line)
+  items-start from line e r = rw e (record { reached = r; past = all-left; same = refl; told = refl })
+
+  pub lines-start : (at line g : ℕ) (answer : SumsAnswer) → ItemsDone at line g answer → g < length fs → (f : Poly) → f ≡ family fs (g + 1) → (s : SumAt)
+      → (s .present ≡ true → Inside bytes at s)
+      → ((n : ℕ) → NumberedFrom n (sumsAt bytes at n) → ItemLine bytes n kind (g + 1) (sumsAt bytes at n) s)
+      → LinesDone at line g f s
+  unfolding sumsJudged family
+  lines-start at line g answer d l f e s i t = record {
+    next = next-line h kind (g + 1) bytes at line s (d .reached) i t;
+    past = d .past;
+    same = rw (e, add-one (g + 1), add-one g) (rw (drop-cons fs g [] l, add-one g) at (d .same));
+  }
+
+  module _ (at line g : ℕ) (f : Poly) (s : SumAt) (d : LinesDone at line g f s) where
+    abbrev ss : List SumLine
+    ss = sumsAt bytes at line
+
+    module _ (p : s .present ≡ true) where
+      abbrev x : SumLine
+      x = heldLine bytes line s
+
+      abbrev ss′ : List SumLine
+      ss′ = sumsAt bytes (s .next) (suc line)
+
+      -- the sum of the item begins with this line
+      with-line : thenJudge (sumVerdict number (g + 1) (lessLines K wordOrder G f (x ∷ sumOf kind (g + 1) ss′))) (itemsFrom (x ∷ ss′) (g + 1)) ≡ whole
+      with-line = rw (its-sum h kind (g + 1) bytes at line s (d .next) p) at (rw (lines-are h kind (g + 1) bytes at line s (d .next) p) at (d .same))
+
+      pub lines-over : (f′ : Poly) → f′ ≡ takeAway K wordOrder G f (takenLine bytes s) → 512 < length f′ → refusal 10 line ≡ whole
+      unfolding thenJudge sumVerdict
+      lines-over f′ e l = rw (less-over K wordOrder G f x (sumOf kind (g + 1) ss′) (rw e at l)) at with-line
+
+      pub lines-next : (f′ : Poly) → f′ ≡ takeAway K wordOrder G f (takenLine bytes s) → length f′ ≤ 512 → (s′ : SumAt)
+          → (s′ .present ≡ true → Inside bytes (s .next) s′)
+          → ((n : ℕ) → NumberedFrom n (sumsAt bytes (s .next) n) → ItemLine bytes n kind (g + 1) (sumsAt bytes (s .next) n) s′)
+          → LinesDone (s .next) (line + 1) g f′ s′
+      lines-next f′ e l s′ i t =
+          let k = its-kind h kind (g + 1) bytes at line s (d .next) p in
+          let skip : itemsFrom (x ∷ ss′) (g + 1) ≡ itemsFrom ss′ (g + 1) = sums-skip number kind K wordOrder G x ss′ (drop (g + 1) fs) (g + 1 + 1) (λ q. let z = k .1 in omega arith) in
+          record {
+            next = next-line h kind (g + 1) bytes (s .next) (line + 1) s′ (next-reached h kind (g + 1) bytes at line s (d .next) p) i t;
+            past = rw (add-one line) (past-one kind (rw (lines-are h kind (g + 1) bytes at line s (d .next) p) at (d .past)) (k .0));
+            same = rw (e, add-one line) (rw (less-more K wordOrder G f x (sumOf kind (g + 1) ss′) (rw e at l), skip) at with-line);
+          }
+
+    module _ (p : s .present ≡ false) where
+      without : thenJudge (sumVerdict number (g + 1) (lessLines K wordOrder G f [])) (itemsFrom ss (g + 1)) ≡ whole
+      without = rw (no-line-left h kind (g + 1) bytes at line s (d .next) p) at (d .same)
+
+      pub lines-wrong : (c l w o : List ℕ) (n : ℕ) → f ≡ formula c l w o n → 0 < n → refusal number (g + 1) ≡ whole
+      unfolding thenJudge
+      lines-wrong c l w o n e z = rw (e, sum-wrong number (g + 1) K wordOrder G c l w o n z) at without
+
+      pub lines-end : (c l w o : List ℕ) (n : ℕ) → f ≡ formula c l w o n → n ≤ 0 → ItemsDone at line (g + 1) (Passed at line)
+      unfolding thenJudge
+      lines-end c l w o n e z =
+          let q : n ≡ 0 = omega arith in
+          record {
+            reached = next-item h kind (g + 1) bytes at line s (d .next) p;
+            past = d .past;
+            same = rw (e, q, sum-right number (g + 1) K wordOrder G c l w o) at without;
+            told = refl;
+          }
+
+  pub items-end : (count at line g : ℕ) (answer : SumsAnswer) → ItemsDone at line g answer → g ≡ count → length fs ≤ g
+      → (verdictOf answer ≡ whole) × LeftBehind h kind count bytes ss₀ answer
+  unfolding verdictOf LeftBehind sumsJudged
+  items-end count at line g answer d e l = rw (d .told) (rw (drop-of-length-le fs l) at (d .same), (rw e at (d .reached), d .past))

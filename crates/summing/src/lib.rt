@@ -1,0 +1,10 @@
+// The sums of a package (refusals 10 to 14): labelled loops over items and their lines, left from inside with number and place.
+
+pub mod overlap_sums;
+pub mod sums;
+
+// What the sums of a kind are judged: refused with number and place, or passed, with the place and the number of the line behind them.
+pub enum SumsAnswer {
+    Refused { number: u32, place: usize },
+    Passed { at: usize, line: usize },
+}
