@@ -32,6 +32,7 @@ use Rattle.acceptance.proofs.LineFacts.{both, coef-fits, word-fits, bel
 record RowBounds (p letters : ℕ) (m : Limits) (v : Word) (n c : ℕ) (w : Word) : Type 0 where
   some : 0 < c
   small : c < p
+  short : length w ≤ m .len
   over : All (Letter letters) w
   falls : (n ≡ 0) ⊎ Lt wordOrder w v
 
@@ -44,7 +45,8 @@ row-bounds p letters m v n c w e =
     let (b, e₂) = both (wordFits (m .len) letters w) room e₁ in
     let (d, e₃) = both (ltb n (m .terms)) fall e₂ in
     let (x, y) = coef-fits p c a in
-    record { some = x; small = y; over = word-fits (m .len) letters w b .1; falls = go (eqb n 0) refl e₃ }
+    let (f, g) = word-fits (m .len) letters w b in
+    record { some = x; small = y; short = f; over = g; falls = go (eqb n 0) refl e₃ }
   where
     go : (t : Bool) → eqb n 0 ≡ t → _≡_ {A = Bool} (elim t [ true ↦ true | false ↦ isBelow w v ]) true → (n ≡ 0) ⊎ Lt wordOrder w v
     go true q z = inl (eqb-true n 0 q)
@@ -68,6 +70,11 @@ module _ (p letters : ℕ) (m : Limits) where
       let b = row-bounds p letters m v n (t .coef) (t .word) e in
       let (w, l) = rows-content ts os in
       (W.term {t = t} (b .small) (λ z. let q = b .some in omega arith) (rows-below ts os) w, b .over also l)
+
+  -- and their coefficients and words are in bounds
+  pub rows-bounded : {v : Word} {n : ℕ} (ts : Poly) → RowsInOrder p letters m v n ts → All (λ t. (t .coef < p) × (length (t .word) ≤ m .len)) ts
+  rows-bounded [] noRows = done
+  rows-bounded {v} {n} (t ∷ ts) (rowThen e os) = let b = row-bounds p letters m v n (t .coef) (t .word) e in (b .small, b .short) also rows-bounded ts os
 
   pub formula-content : (s : List ℕ) (ts : Poly) → readFormula p letters m s ≡ formula ts → Written (fieldOf p) wordOrder ts × InLetters (Letter letters) ts
   formula-content s ts e = rows-content ts (formula-reads p letters m s ts e .0)

@@ -7,3 +7,4 @@ pub mod ReadableContent
 pub mod Packages
 pub mod SlicesContent
 pub mod FormulaContent
+pub mod FormulaSlices
