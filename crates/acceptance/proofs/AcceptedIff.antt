@@ -45,7 +45,7 @@ then-iff (refusal n k) w = (λ e. absurd (clash e), λ h. absurd (clash (h .0)))
 then-iff fine w = (λ e. (refl, e), λ h. h .1)
 
 -- 8: every polynomial is nonzero and leads with 1
-leads-to : (ps : List Poly) (i : ℕ) → leadsJudged ps i ≡ fine → All (λ f. (f ≢ []) × (leadCoef f ≡ 1)) ps
+pub leads-to : (ps : List Poly) (i : ℕ) → leadsJudged ps i ≡ fine → All (λ f. (f ≢ []) × (leadCoef f ≡ 1)) ps
 unfolding leadsJudged leadCoef
 leads-to [] i e = done
 leads-to ([] ∷ ps) i e = absurd (clash e)

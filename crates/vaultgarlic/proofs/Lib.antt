@@ -2,6 +2,7 @@
 mod RefusalNumbers
 mod VerdictNumbers
 mod ListingAnswers
+mod BasisLeads
 mod Answers
 mod Refusals
 mod Acceptance
