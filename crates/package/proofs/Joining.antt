@@ -1,11 +1,13 @@
 -- Lines 1 to 3 and the blocks together: one law for each way through the readers.
-use mathlib.Core.Path.{_≡_, sym, _∙_}
+use mathlib.Core.Path.{_≡_, sym, ap, _∙_}
 use mathlib.Core.Bool.{true, false}
 use mathlib.Core.List.{List, []}
 use Prim.Native.Nat.{ℕ, _+_, _-_, _≤_, _<_}
 use native.Mathlib.Omega.{arith}
 use lib.ListN.{length, drop}
 use borrow.Author.Tests.{lt-ltb, le-ltb}
+use Rattle.package.proofs.TermBlockTexts.{block2-text}
+use Rattle.package.proofs.TermSlices.{kept-length}
 use Rattle.package.specs.Head.{noHead, head, headForm, primeFits, countsFit}
 use Rattle.package.specs.Held.{kept, seen2, spotOf, lineOf, countOf, Inside, seen3}
 use Rattle.package.specs.Names.{headNames, termNames}
@@ -44,6 +46,14 @@ module _ (r : Sums) (x : Block3) where
   pub seen-sound : r ≡ Sound → seen3 r ≡ x → x ≡ fine
   unfolding seen3
   seen-sound q h = sym h ∙ rw q
+
+-- The first sum line stands behind three lines, the terms and one names line.
+pub line-behind : (h : Head) (lim : Limits) (ps ms : Pieces) (s ks is cs os ls : List ℕ) (m n : ℕ) → block2 h lim start [] 4 ps ≡ ended2
+    (kept s ks is cs os ls m) n ms → n ≡ m + 5
+line-behind h lim ps ms s ks is cs os ls m n e =
+    let t = block2-text h lim (kept s ks is cs os ls m) n ms ps start [] 4 e in
+    let z : m ≡ length (t .more) = sym (kept-length s ks is cs os ls m) ∙ ap length (t .terms) in
+    omega (arith, t .line)
 
 -- Blocks 2 and 3.
 module _ (h : Head) (lim : Limits) (ls : Pieces) where

@@ -16,12 +16,12 @@ use Rattle.text.specs.Number.{writeNumber}
 use Rattle.text.specs.Word.{word}
 
 -- A text from its lines, each ended by byte 10.
-pub text : List (List ℕ) → List ℕ
+unfoldable pub text : List (List ℕ) → List ℕ
 text [] = []
 text (l ∷ ls) = l ++ (10 ∷ text ls)
 
 -- The package E, line by line.
-pub linesE : List (List ℕ)
+unfoldable pub linesE : List (List ℕ)
 linesE =
     ascii "p letters gens basis"
     ∷ ascii "7 2 1 2"
@@ -42,7 +42,7 @@ linesE =
     ∷ ascii "O 2 1 b 1 -"
     ∷ []
 
-pub packageE : List ℕ
+unfoldable pub packageE : List ℕ
 unfolding text linesE
 packageE = text linesE
 

@@ -149,6 +149,11 @@ unfoldable pub lineAll : Reading → ℕ
 lineAll (Refusal r n) = 0
 lineAll (Whole h m at n) = n
 
+-- Where a package reads, its first sum line has the number behind three lines, the terms and one names line.
+unfoldable pub LineHeld : Reading → Type 0
+LineHeld (Refusal r n) = Unit {0}
+LineHeld (Whole h m at n) = n ≡ m + 5
+
 -- For each item number j up to the one after the last, fs says where the terms of item j start among the first n.
 abbrev pub Marked : Head → List ℕ → List ℕ → ℕ → List ℕ → Type 0
 Marked h ks is n fs = (j : ℕ) → j < h .gens + h .basis + 2 → getD fs j 0 ≡ firstOf j (slotsHeld h ks is n)

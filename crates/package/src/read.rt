@@ -20,7 +20,7 @@ ghost use Prim.Native.Nat.{ℕ, _+_, _≤_};
 ghost use lib.ListN.{length, drop};
 ghost use Rattle.text.specs.Pieces.{lines};
 ghost use Rattle.package.specs.Package.{lowerBlocks, line3, line2, readWith, readPackage};
-ghost use Rattle.package.specs.Held.{seenAll, countAll, Inside, gensAll, basisAll, spotAll, lineAll, FirstsHeld};
+ghost use Rattle.package.specs.Held.{seenAll, countAll, Inside, gensAll, basisAll, spotAll, lineAll, LineHeld, FirstsHeld};
 
 // Blocks 2 and 3, from line 4 on, which starts at the place from.
 fn read_lower(
@@ -40,7 +40,7 @@ fn read_lower(
     ensures { λ r. ⌜ seenAll (now (s .entry)) (now (kinds .exit)) (now (items .exit)) (now (coefs .exit)) (now (starts .exit)) (now (lens .exit)) r ≡ lowerBlocks h m (lines (drop from (now (s .entry)))) ⌝ }
     ensures { λ r. ⌜ (countAll r ≤ 1024) × Inside (now (s .entry)) (now (starts .exit)) (now (lens .exit)) (countAll r) ⌝ }
     ensures { λ r. ⌜ (gensAll r ≤ 32) × (basisAll r ≤ 64) ⌝ }
-    ensures { λ r. ⌜ (spotAll r ≤ length (now (s .entry))) × (lineAll r ≤ spotAll r + 4) ⌝ }
+    ensures { λ r. ⌜ (spotAll r ≤ length (now (s .entry))) × (lineAll r ≤ spotAll r + 4) × LineHeld r ⌝ }
 {
     let t = read_terms(h, m, s, from, 4, kinds, items, coefs, starts, lens);
     match t {
@@ -84,7 +84,7 @@ fn read_line3(
     ensures { λ r. ⌜ seenAll (now (s .entry)) (now (kinds .exit)) (now (items .exit)) (now (coefs .exit)) (now (starts .exit)) (now (lens .exit)) r ≡ line3 h m (lines (drop from (now (s .entry)))) ⌝ }
     ensures { λ r. ⌜ (countAll r ≤ 1024) × Inside (now (s .entry)) (now (starts .exit)) (now (lens .exit)) (countAll r) ⌝ }
     ensures { λ r. ⌜ (gensAll r ≤ 32) × (basisAll r ≤ 64) ⌝ }
-    ensures { λ r. ⌜ (spotAll r ≤ length (now (s .entry))) × (lineAll r ≤ spotAll r + 4) ⌝ }
+    ensures { λ r. ⌜ (spotAll r ≤ length (now (s .entry))) × (lineAll r ≤ spotAll r + 4) × LineHeld r ⌝ }
 {
     let e = find(s, from, 10);
     if s.len() <= e {
@@ -118,7 +118,7 @@ fn read_line2(
     ensures { λ r. ⌜ seenAll (now (s .entry)) (now (kinds .exit)) (now (items .exit)) (now (coefs .exit)) (now (starts .exit)) (now (lens .exit)) r ≡ line2 m (lines (drop from (now (s .entry)))) ⌝ }
     ensures { λ r. ⌜ (countAll r ≤ 1024) × Inside (now (s .entry)) (now (starts .exit)) (now (lens .exit)) (countAll r) ⌝ }
     ensures { λ r. ⌜ (gensAll r ≤ 32) × (basisAll r ≤ 64) ⌝ }
-    ensures { λ r. ⌜ (spotAll r ≤ length (now (s .entry))) × (lineAll r ≤ spotAll r + 4) ⌝ }
+    ensures { λ r. ⌜ (spotAll r ≤ length (now (s .entry))) × (lineAll r ≤ spotAll r + 4) × LineHeld r ⌝ }
 {
     let e = find(s, from, 10);
     if s.len() <= e {
@@ -175,7 +175,7 @@ fn read_lines(
     ensures { λ r. ⌜ seenAll (now (s .entry)) (now (kinds .exit)) (now (items .exit)) (now (coefs .exit)) (now (starts .exit)) (now (lens .exit)) r ≡ readWith m (now (s .entry)) ⌝ }
     ensures { λ r. ⌜ (countAll r ≤ 1024) × Inside (now (s .entry)) (now (starts .exit)) (now (lens .exit)) (countAll r) ⌝ }
     ensures { λ r. ⌜ (gensAll r ≤ 32) × (basisAll r ≤ 64) ⌝ }
-    ensures { λ r. ⌜ (spotAll r ≤ length (now (s .entry))) × (lineAll r ≤ spotAll r + 4) ⌝ }
+    ensures { λ r. ⌜ (spotAll r ≤ length (now (s .entry))) × (lineAll r ≤ spotAll r + 4) × LineHeld r ⌝ }
 {
     if 65536 < s.len() {
         return Reading::Refusal {
@@ -214,7 +214,7 @@ pub fn read_package(
     ensures { λ r. ⌜ seenAll (now (s .entry)) (now (kinds .exit)) (now (items .exit)) (now (coefs .exit)) (now (starts .exit)) (now (lens .exit)) r ≡ readPackage (now (s .entry)) ⌝ }
     ensures { λ r. ⌜ (countAll r ≤ 1024) × Inside (now (s .entry)) (now (starts .exit)) (now (lens .exit)) (countAll r) ⌝ }
     ensures { λ r. ⌜ (gensAll r ≤ 32) × (basisAll r ≤ 64) ⌝ }
-    ensures { λ r. ⌜ (spotAll r ≤ length (now (s .entry))) × (lineAll r ≤ spotAll r + 4) ⌝ }
+    ensures { λ r. ⌜ (spotAll r ≤ length (now (s .entry))) × (lineAll r ≤ spotAll r + 4) × LineHeld r ⌝ }
     ensures { λ r. ⌜ FirstsHeld (now (kinds .exit)) (now (items .exit)) (now (firsts .exit)) r ⌝ }
 {
     let m = Limits { terms: 48, len: 24 };

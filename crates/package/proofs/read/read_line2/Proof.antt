@@ -5,7 +5,7 @@ use borrow.Author.Tests.{not-true, not-false}
 use borrow.Author.Needs.{needs}
 use Rattle.package.proofs.CountsLine.{seen-no-head, seen-head, counts-bounds}
 use Rattle.package.proofs.Joining.{line2-missing, line2-wrong, line2-prime, line2-counts, line2-right}
-use Rattle.package.specs.Held.{seenAll, countAll, gensAll, basisAll, spotAll, lineAll}
+use Rattle.package.specs.Held.{seenAll, countAll, gensAll, basisAll, spotAll, lineAll, LineHeld}
 use Rattle.package.proofs.read.read_line2.Statement.{statement}
 use Rattle.package.proofs.read.read_line2.Tie as tie
 
@@ -13,10 +13,10 @@ find-requires : tie.Need-find-requires
 find-requires c κs = search needs
 
 returns : tie.Need-returns
-unfolding seenAll countAll gensAll basisAll spotAll lineAll
+unfolding seenAll countAll gensAll basisAll spotAll lineAll LineHeld
 returns c = (
   line2-missing _ _ _ _ (c .before .find .ensures .0) (c .if1 .taken),
-  ((omega arith, λ i z. absurd (omega arith)), ((omega arith, omega arith), (omega arith, omega arith))),
+  ((omega arith, λ i z. absurd (omega arith)), ((omega arith, omega arith), (omega arith, omega arith, tt))),
 )
 
 sub-read-head : tie.Need-sub-read-head
@@ -38,33 +38,33 @@ enum-told : tie.Need-enum-told
 enum-told c = search needs
 
 returns-2 : tie.Need-returns-2
-unfolding seenAll countAll gensAll basisAll spotAll lineAll
+unfolding seenAll countAll gensAll basisAll spotAll lineAll LineHeld
 returns-2 c =
     let c2 = c .before .before in
     let c4 = c2 .before .before in
     let c5 = c4 .before in (
       line2-wrong _ _ _ _ (c5 .find .ensures .0) (c4 .if1 .left) (seen-no-head _ _ (c .enum-told .given .1) (c2 .read-head .ensures)),
-      ((omega arith, λ i z. absurd (omega arith)), ((omega arith, omega arith), (omega arith, omega arith))),
+      ((omega arith, λ i z. absurd (omega arith)), ((omega arith, omega arith), (omega arith, omega arith, tt))),
     )
 
 prime-fits-requires : tie.Need-prime-fits-requires
 prime-fits-requires c κs = search needs
 
 returns-3 : tie.Need-returns-3
-unfolding seenAll countAll gensAll basisAll spotAll lineAll
+unfolding seenAll countAll gensAll basisAll spotAll lineAll LineHeld
 returns-3 c =
     let f = c .before .before .before .before .before .before .before .before in (
       line2-prime _ _ _ _ (f .find .ensures .0) (c .before .before .before .before .before .before .before .if1 .left) _
           (seen-head _ _ _ _ _ _ (c .before .before .before .p .given .1) (c .before .before .before .before .before .read-head .ensures))
           (sym (c .before .prime-fits .ensures) ∙ not-true _ (c .if2 .taken)),
-      ((omega arith, λ i z. absurd (omega arith)), ((omega arith, omega arith), (omega arith, omega arith))),
+      ((omega arith, λ i z. absurd (omega arith)), ((omega arith, omega arith), (omega arith, omega arith, tt))),
     )
 
 counts-fit-requires : tie.Need-counts-fit-requires
 counts-fit-requires c κs = search needs
 
 returns-4 : tie.Need-returns-4
-unfolding seenAll countAll gensAll basisAll spotAll lineAll
+unfolding seenAll countAll gensAll basisAll spotAll lineAll LineHeld
 returns-4 c =
     let f = c .before .before .before .before .before .before .before .before .before .before in (
       line2-counts _ _ _ _ (f .find .ensures .0) (c .before .before .before .before .before .before .before .before .before .if1 .left) _
@@ -72,7 +72,7 @@ returns-4 c =
           (c .before .before .before .before .before .before .before .read-head .ensures))
           (sym (c .before .before .before .prime-fits .ensures) ∙ not-false _ (c .before .before .if2 .left))
           (sym (c .before .counts-fit .ensures) ∙ not-true _ (c .if3 .taken)),
-      ((omega arith, λ i z. absurd (omega arith)), ((omega arith, omega arith), (omega arith, omega arith))),
+      ((omega arith, λ i z. absurd (omega arith)), ((omega arith, omega arith), (omega arith, omega arith, tt))),
     )
 
 add-read-line3 : tie.Need-add-read-line3

@@ -4,7 +4,7 @@ use native.Mathlib.Omega.{arith}
 use borrow.Author.Tests.{not-true, not-false}
 use borrow.Author.Needs.{needs}
 use Rattle.package.proofs.Joining.{line3-missing, line3-wrong, line3-right}
-use Rattle.package.specs.Held.{seenAll, countAll, gensAll, basisAll, spotAll, lineAll}
+use Rattle.package.specs.Held.{seenAll, countAll, gensAll, basisAll, spotAll, lineAll, LineHeld}
 use Rattle.package.proofs.read.read_line3.Statement.{statement}
 use Rattle.package.proofs.read.read_line3.Tie as tie
 
@@ -12,10 +12,10 @@ find-requires : tie.Need-find-requires
 find-requires c κs = search needs
 
 returns : tie.Need-returns
-unfolding seenAll countAll gensAll basisAll spotAll lineAll
+unfolding seenAll countAll gensAll basisAll spotAll lineAll LineHeld
 returns c = (
   line3-missing _ _ _ _ (c .before .find .ensures .0) _ (c .if1 .taken),
-  ((omega arith, λ i z. absurd (omega arith)), ((omega arith, omega arith), (omega arith, omega arith))),
+  ((omega arith, λ i z. absurd (omega arith)), ((omega arith, omega arith), (omega arith, omega arith, tt))),
 )
 
 sub-is-term-names : tie.Need-sub-is-term-names
@@ -31,12 +31,12 @@ is-term-names-requires : tie.Need-is-term-names-requires
 is-term-names-requires c κs = search needs
 
 returns-2 : tie.Need-returns-2
-unfolding seenAll countAll gensAll basisAll spotAll lineAll
+unfolding seenAll countAll gensAll basisAll spotAll lineAll LineHeld
 returns-2 c =
     let c3 = c .before .before .before in
     let c4 = c3 .before in (
       line3-wrong _ _ _ _ (c4 .find .ensures .0) (c3 .if1 .left) _ (sym (c .before .is-term-names .ensures) ∙ not-true _ (c .if2 .taken)),
-      ((omega arith, λ i z. absurd (omega arith)), ((omega arith, omega arith), (omega arith, omega arith))),
+      ((omega arith, λ i z. absurd (omega arith)), ((omega arith, omega arith), (omega arith, omega arith, tt))),
     )
 
 add-read-lower : tie.Need-add-read-lower

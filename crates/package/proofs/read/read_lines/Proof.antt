@@ -4,23 +4,23 @@ use native.Mathlib.Omega.{arith}
 use borrow.Author.Tests.{not-true, not-false}
 use borrow.Author.Needs.{needs}
 use Rattle.package.proofs.Joining.{line1-missing, line1-wrong, line1-right, package-long, package-lines}
-use Rattle.package.specs.Held.{seenAll, countAll, gensAll, basisAll, spotAll, lineAll}
+use Rattle.package.specs.Held.{seenAll, countAll, gensAll, basisAll, spotAll, lineAll, LineHeld}
 use Rattle.package.proofs.read.read_lines.Statement.{statement}
 use Rattle.package.proofs.read.read_lines.Tie as tie
 
 returns : tie.Need-returns
-unfolding seenAll countAll gensAll basisAll spotAll lineAll
-returns c = (package-long _ _ (c .if1 .taken), ((omega arith, λ i z. absurd (omega arith)), ((omega arith, omega arith), (omega arith, omega arith))))
+unfolding seenAll countAll gensAll basisAll spotAll lineAll LineHeld
+returns c = (package-long _ _ (c .if1 .taken), ((omega arith, λ i z. absurd (omega arith)), ((omega arith, omega arith), (omega arith, omega arith, tt))))
 
 find-requires : tie.Need-find-requires
 find-requires c κs = search needs
 
 returns-2 : tie.Need-returns-2
-unfolding seenAll countAll gensAll basisAll spotAll lineAll
+unfolding seenAll countAll gensAll basisAll spotAll lineAll LineHeld
 returns-2 c =
     let c2 = c .before .before in (
       line1-missing _ _ 0 _ (c .before .find .ensures .0) (c .if2 .taken) ∙ package-lines _ _ (c2 .if1 .left),
-      ((omega arith, λ i z. absurd (omega arith)), ((omega arith, omega arith), (omega arith, omega arith))),
+      ((omega arith, λ i z. absurd (omega arith)), ((omega arith, omega arith), (omega arith, omega arith, tt))),
     )
 
 sub-is-head-names : tie.Need-sub-is-head-names
@@ -36,14 +36,14 @@ is-head-names-requires : tie.Need-is-head-names-requires
 is-head-names-requires c κs = search needs
 
 returns-3 : tie.Need-returns-3
-unfolding seenAll countAll gensAll basisAll spotAll lineAll
+unfolding seenAll countAll gensAll basisAll spotAll lineAll LineHeld
 returns-3 c =
     let c3 = c .before .before .before in
     let c4 = c3 .before in
     let c5 = c4 .before in (
       line1-wrong _ _ 0 _ (c4 .find .ensures .0) (c3 .if2 .left) (sym (c .before .is-head-names .ensures) ∙ not-true _ (c .if3 .taken))
           ∙ package-lines _ _ (c5 .if1 .left),
-      ((omega arith, λ i z. absurd (omega arith)), ((omega arith, omega arith), (omega arith, omega arith))),
+      ((omega arith, λ i z. absurd (omega arith)), ((omega arith, omega arith), (omega arith, omega arith, tt))),
     )
 
 add-read-line2 : tie.Need-add-read-line2

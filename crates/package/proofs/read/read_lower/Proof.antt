@@ -1,8 +1,8 @@
 -- `read_lower` joins blocks 2 and 3 as `lowerBlocks` does.
 use native.Mathlib.Omega.{arith}
 use borrow.Author.Needs.{needs}
-use Rattle.package.proofs.Joining.{seen-refused, seen-names, spot-le, seen-fault, seen-sound, lower-refused, lower-fault, lower-read}
-use Rattle.package.specs.Held.{countOf, seenAll, countAll, gensAll, basisAll, spotAll, lineAll}
+use Rattle.package.proofs.Joining.{seen-refused, seen-names, spot-le, line-behind, seen-fault, seen-sound, lower-refused, lower-fault, lower-read}
+use Rattle.package.specs.Held.{countOf, seenAll, countAll, gensAll, basisAll, spotAll, lineAll, LineHeld}
 use Rattle.package.proofs.read.read_lower.Statement.{statement}
 use Rattle.package.proofs.read.read_lower.Tie as tie
 
@@ -44,11 +44,11 @@ same-length-5 : tie.Need-same-length-5
 same-length-5 c = search needs
 
 returns : tie.Need-returns
-unfolding seenAll countAll gensAll basisAll spotAll lineAll
+unfolding seenAll countAll gensAll basisAll spotAll lineAll LineHeld
 returns c =
     let c13 = c .before .before .before .before .before .before .before .before .before .before .before .before .before in (
       lower-refused _ _ _ _ _ (seen-refused _ _ _ _ _ _ _ _ _ _ (c .before .t .given .1) (c13 .read-terms .ensures .0)),
-      ((omega arith, λ i z. absurd (omega arith)), ((omega arith, omega arith), (omega arith, omega arith))),
+      ((omega arith, λ i z. absurd (omega arith)), ((omega arith, omega arith), (omega arith, omega arith, tt))),
     )
 
 same-length-6 : tie.Need-same-length-6
@@ -67,12 +67,12 @@ same-length-10 : tie.Need-same-length-10
 same-length-10 c = search needs
 
 returns-2 : tie.Need-returns-2
-unfolding seenAll countAll gensAll basisAll spotAll lineAll
+unfolding seenAll countAll gensAll basisAll spotAll lineAll LineHeld
 returns-2 c =
     let g = c .before .before .before .before .before .t2 .given .1 in (
       lower-fault _ _ _ _ _ _ (seen-names _ _ _ _ _ _ _ _ _ _ _ g
           (c .before .before .before .before .before .before .before .before .before .before .before .before .before .before .before .before .before .read-terms .ensures .0)) _ _ (seen-fault _ _ _ _ (c .before .u .given .1) (c .before .before .before .judge-sums .ensures)),
-      ((omega arith, λ i z. absurd (omega arith)), ((omega arith, omega arith), (omega arith, omega arith))),
+      ((omega arith, λ i z. absurd (omega arith)), ((omega arith, omega arith), (omega arith, omega arith, tt))),
     )
 
 same-length-11 : tie.Need-same-length-11
@@ -91,13 +91,15 @@ same-length-15 : tie.Need-same-length-15
 same-length-15 c = search needs
 
 returns-3 : tie.Need-returns-3
-unfolding seenAll countAll gensAll basisAll spotAll lineAll countOf
+unfolding seenAll countAll gensAll basisAll spotAll lineAll LineHeld countOf
 returns-3 c =
     let g = c .before .before .before .before .t2 .given .1 in
     let t = c .before .before .before .before .before .before .before .before .before .before .before .before .before .before .before .before .read-terms .ensures in
-    let p = c .before .before .before .before .before .before .before .before .before .before .before .before .before .before .before .before .before .before .before .before .before .before .before .before .before .before .before .before .pre in (
-      lower-read _ _ _ _ _ _ (seen-names _ _ _ _ _ _ _ _ _ _ _ g (t .0)) (seen-sound _ _ (c .enum-told .given .1) (c .before .before .judge-sums .ensures)),
-      (rw g at (t .1 .0), ((p .0 .1, p .0 .2), spot-le _ _ _ _ _ g (t .1 .1))),
+    let p = c .before .before .before .before .before .before .before .before .before .before .before .before .before .before .before .before .before .before .before .before .before .before .before .before .before .before .before .before .pre in
+    let e = seen-names _ _ _ _ _ _ _ _ _ _ _ g (t .0) in
+    let z = spot-le _ _ _ _ _ g (t .1 .1) in (
+      lower-read _ _ _ _ _ _ e (seen-sound _ _ (c .enum-told .given .1) (c .before .before .judge-sums .ensures)),
+      (rw g at (t .1 .0), ((p .0 .1, p .0 .2), (z .0, z .1, line-behind _ _ _ _ _ _ _ _ _ _ _ _ e))),
     )
 
 pub read-lower-spec : {M : Type 1} → statement M

@@ -3,7 +3,7 @@ use mathlib.Core.Path.{_∙_}
 use native.Mathlib.Omega.{arith}
 use borrow.Author.Needs.{needs}
 use Rattle.package.proofs.Joining.{room-for}
-use Rattle.package.specs.Held.{seenAll, countAll, gensAll, basisAll, spotAll, lineAll, FirstsHeld}
+use Rattle.package.specs.Held.{seenAll, countAll, gensAll, basisAll, spotAll, lineAll, LineHeld, FirstsHeld}
 use Rattle.package.specs.Package.{readPackage}
 use Rattle.package.proofs.read.read_package.Statement.{statement}
 use Rattle.package.proofs.read.read_package.Tie as tie
@@ -42,11 +42,11 @@ same-length-5 : tie.Need-same-length-5
 same-length-5 c = search needs
 
 returns : tie.Need-returns
-unfolding seenAll countAll gensAll basisAll spotAll lineAll FirstsHeld readPackage
+unfolding seenAll countAll gensAll basisAll spotAll lineAll LineHeld FirstsHeld readPackage
 returns c =
     let t = c .before .before .before .before .before .before .before .before .before .before .before .before .before .read-lines in
     let g = c .before .r .given .1 in
-    (rw g at (t .ensures .0), ((omega arith, λ i z. absurd (omega arith)), ((omega arith, omega arith), ((omega arith, omega arith), tt))))
+    (rw g at (t .ensures .0), ((omega arith, λ i z. absurd (omega arith)), ((omega arith, omega arith), ((omega arith, omega arith, tt), tt))))
 
 same-length-6 : tie.Need-same-length-6
 same-length-6 c = search needs
@@ -67,7 +67,7 @@ same-length-11 : tie.Need-same-length-11
 same-length-11 c = search needs
 
 returns-2 : tie.Need-returns-2
-unfolding seenAll countAll gensAll basisAll spotAll lineAll FirstsHeld readPackage
+unfolding seenAll countAll gensAll basisAll spotAll lineAll LineHeld FirstsHeld readPackage
 returns-2 c =
     let t = c .before .before .before .before .before .before .before .before .before .before .before .before .before .before .before .before .before .before .before .read-lines .ensures in
     let g = c .before .before .before .before .before .before .before .r2 .given .1 in
