@@ -29,8 +29,22 @@ enum {
     VG_TOO_MANY_TERMS = 7, /* an item's 49th term, or the 1,025th term line; line */
     VG_LEADING = 8,        /* a basis polynomial is zero or does not lead with 1; its number */
     VG_HOLDS_ANOTHER = 9,  /* a basis polynomial's leading word holds another's; its number */
+    VG_SUM_TOO_LONG = 10,  /* a sum line leaves over 512 terms of what its item still needs; line */
+    VG_BASIS_SUM = 11,     /* a B sum is not the basis polynomial; its number */
+    VG_RELATION_SUM = 12,  /* a G sum is not the relation; its number */
+    VG_OVERLAP_SUM = 13,   /* an O sum is not the overlap's difference; the overlap's number */
+    VG_NOT_BELOW = 14,     /* an O line is not below its overlap word; line */
+    VG_NO_OVERLAP = 15,    /* an O line's item is above the overlap count; line */
+    VG_FORMULA = 16,       /* the formula does not read; its line */
+    VG_TOO_LARGE = 17,     /* a step leaves over 512 terms; the step, from 1 */
+    VG_BUDGET = 18,        /* the budget is used and the formula can still be reduced; the budget */
     VG_NO_ROOM = 19        /* the output is too short; the bytes required */
 };
+
+typedef struct {
+    uint64_t number, place;
+    uint64_t overlaps; /* how many overlaps there are */
+} vg_checked;
 
 typedef struct {
     uint64_t number, place;
@@ -38,8 +52,32 @@ typedef struct {
     uint64_t written;  /* how many bytes were written */
 } vg_listed;
 
+typedef struct {
+    uint64_t number, place;
+    uint64_t steps;   /* how many steps were taken */
+    uint64_t written; /* how many bytes were written */
+} vg_shortened;
+
+typedef struct {
+    uint64_t number, place;
+    uint64_t steps;  /* how many steps were taken */
+    uint64_t member; /* 1: the formula is a sum over the relations; 0: it is not */
+} vg_membership;
+
+/* Checks the package: number 0 says that it is accepted. Judges refusals 1 to 15. */
+vg_checked vg_check(const uint8_t *package, size_t package_len);
+
 /* Writes the list of the package's overlaps to out. Judges refusals 1 to 9 and 19. */
 vg_listed vg_list_overlaps(const uint8_t *package, size_t package_len, uint8_t *out, size_t out_len);
+
+/* Writes the formula's short form under the package to out, in at most budget steps. Judges 1 to 15, then 16 to 19.
+ * Two formulas get the same bytes exactly if they are equal modulo the package's relations. */
+vg_shortened vg_short_form(const uint8_t *package, size_t package_len, const uint8_t *formula, size_t formula_len,
+                           uint32_t budget, uint8_t *out, size_t out_len);
+
+/* Says whether the formula is a sum over the package's relations, in at most budget steps. Judges 1 to 15, then 16 to 18. */
+vg_membership vg_member(const uint8_t *package, size_t package_len, const uint8_t *formula, size_t formula_len,
+                        uint32_t budget);
 
 #ifdef __cplusplus
 }

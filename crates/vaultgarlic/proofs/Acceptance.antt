@@ -11,7 +11,8 @@ use Rattle.package.proofs.PackageTexts.{reads-iff}
 use Rattle.acceptance.specs.Check.{checked, fine}
 use Rattle.acceptance.specs.Facts.{Acceptable}
 use Rattle.acceptance.proofs.Packages.{accepted-iff-facts}
-use Rattle.vaultgarlic.specs.Services.{judgedBy, acceptance, checkAnswer, checkedAs}
+use Rattle.accepting.specs.Acceptance.{judgedBy, acceptance}
+use Rattle.vaultgarlic.specs.Services.{checkAnswer, checkedAs}
 use Rattle.vaultgarlic.proofs.RefusalNumbers.{Numbered, read-number}
 use Rattle.vaultgarlic.proofs.Answers.{accepted-is, answered-fine}
 

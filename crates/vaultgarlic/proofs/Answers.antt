@@ -17,7 +17,9 @@ use Rattle.package.specs.Package.{Package, Outcome, refused, read, readPackage}
 use Rattle.package.specs.Writing.{writeFormula}
 use Rattle.acceptance.specs.Content.{basis}
 use Rattle.acceptance.specs.Check.{Verdict, refusal, fine, checked}
-use Rattle.vaultgarlic.specs.Services.{judgedBy, acceptance, checkAnswer, checkedAs, fitted, formulaLimits, Reduction, refusedBy, shortForm, reductionOf, formulaReduced, packageReduced, reduction, shortAnswer, shortenedAs, shortOutput, shortenedInto, memberAnswer, membershipAs}
+use Rattle.accepting.specs.Acceptance.{judgedBy, acceptance}
+use Rattle.reducing.specs.Reduction.{formulaLimits, Reduction, refusedBy, shortForm, reductionOf, formulaReduced, packageReduced, reduction}
+use Rattle.vaultgarlic.specs.Services.{checkAnswer, checkedAs, fitted, shortAnswer, shortenedAs, shortOutput, shortenedInto, memberAnswer, membershipAs}
 use Rattle.vaultgarlic.proofs.RefusalNumbers.{Numbered, read-number}
 use Rattle.vaultgarlic.proofs.VerdictNumbers.{Judged, check-number}
 

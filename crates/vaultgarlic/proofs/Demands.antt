@@ -30,7 +30,9 @@ use Rattle.acceptance.specs.Facts.{Acceptable}
 use Rattle.acceptance.proofs.ReadableContent.{readable-field, basis-letters}
 use Rattle.acceptance.proofs.Packages.{accepted-iff-facts, package-accepted}
 use Rattle.acceptance.proofs.FormulaContent.{formula-content, text-unique}
-use Rattle.vaultgarlic.specs.Services.{judgedBy, acceptance, listable, checkAnswer, checkedAs, fitted, listAnswer, listedAs, listOutput, listedInto, wordsListed, Reduction, refusedBy, shortForm, reduction, shortAnswer, shortenedAs, shortOutput, shortenedInto, memberAnswer, membershipAs, formulaLimits}
+use Rattle.accepting.specs.Acceptance.{judgedBy, acceptance}
+use Rattle.reducing.specs.Reduction.{Reduction, refusedBy, shortForm, reduction, formulaLimits}
+use Rattle.vaultgarlic.specs.Services.{listable, checkAnswer, checkedAs, fitted, listAnswer, listedAs, listOutput, listedInto, wordsListed, shortAnswer, shortenedAs, shortOutput, shortenedInto, memberAnswer, membershipAs}
 use Rattle.vaultgarlic.specs.Demands.{AcceptedAs, ReadAs, Answered, writtenBytes, RelationSum, EqualModulo, ShortFormOf}
 use Rattle.vaultgarlic.proofs.Answers.{accepted-is, answered-fine, short-answered, member-answered, reduced-is, written-is}
 

@@ -15,7 +15,8 @@ use Rattle.acceptance.specs.Content.{basis}
 use Rattle.acceptance.specs.Check.{Verdict, refusal, fine, thenJudge, leadsJudged, apartJudged, basisJudged}
 use Rattle.sumlines.specs.Told.{told}
 use Rattle.vaultgarlic.specs.declared.Listed.{Listed}
-use Rattle.vaultgarlic.specs.Services.{judgedBy, listable, wordsListed, fitted, listAnswer, listOutput, listedAs, listedInto}
+use Rattle.accepting.specs.Acceptance.{judgedBy}
+use Rattle.vaultgarlic.specs.Services.{listable, wordsListed, fitted, listAnswer, listOutput, listedAs, listedInto}
 use Rattle.vaultgarlic.specs.ListingParts.{verdictListed, verdictOutput, basisListed, basisOutput}
 
 -- A refusal of listing, as an answer.

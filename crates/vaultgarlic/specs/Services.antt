@@ -6,38 +6,24 @@ use Prim.Native.Nat.{ℕ}
 use lib.Dec.{ltb}
 use lib.ListN.{length}
 use lib.Seq.{sets}
-use Rattle.field.specs.Field.{fieldOf}
 use Rattle.words.specs.Word.{Word}
-use Rattle.words.specs.Order.{wordOrder}
-use Rattle.algebra.specs.Poly.{Term, Poly}
-use Rattle.algebra.specs.Steps.{Ended, answer, over, spent, run}
-use Rattle.package.specs.declared.Limits.{Limits}
-use Rattle.package.specs.Formula.{FormulaOutcome, wrongAt, formula, readFormula}
-use Rattle.package.specs.Package.{Package, Outcome, refused, read, readPackage, packageLimits}
+use Rattle.package.specs.Package.{Package, Outcome, refused, read, readPackage}
 use Rattle.package.specs.Writing.{writeFormula}
 use Rattle.overlaps.specs.Overlaps.{leads, overlaps}
 use Rattle.overlaps.specs.Listing.{overlapText}
 use Rattle.acceptance.specs.Content.{basis}
-use Rattle.acceptance.specs.Check.{Verdict, refusal, fine, basisJudged, checked}
+use Rattle.acceptance.specs.Check.{basisJudged}
+use Rattle.accepting.specs.Acceptance.{judgedBy, acceptance}
+use Rattle.reducing.specs.Reduction.{Reduction, refusedBy, shortForm, reduction}
 use Rattle.vaultgarlic.specs.declared.Checked.{Checked}
 use Rattle.vaultgarlic.specs.declared.Listed.{Listed}
 use Rattle.vaultgarlic.specs.declared.Shortened.{Shortened}
 use Rattle.vaultgarlic.specs.declared.Membership.{Membership}
 
--- A package's bytes, judged: refused with number and place, or the package.
-unfoldable pub judgedBy : (Package → Verdict) → Outcome → Outcome
-judgedBy judge (refused n k) = refused n k
-judgedBy judge (read P) = elim (judge P) [ refusal n k ↦ refused n k | fine ↦ read P ]
-
 -- Listing judges refusals 1 to 9 and 19 only.
 unfoldable pub listable : List ℕ → Outcome
 unfolding judgedBy readPackage basisJudged basis
 listable bytes = judgedBy (λ P. basisJudged (basis P)) (readPackage bytes)
-
--- The check judges 1 to 15; what it does not refuse is accepted.
-unfoldable pub acceptance : List ℕ → Outcome
-unfolding judgedBy readPackage checked
-acceptance bytes = judgedBy checked (readPackage bytes)
 
 -- The check: the overlap count.
 unfoldable pub checkAnswer : Outcome → Checked
@@ -81,37 +67,6 @@ listOutput out (read P) = fitted (overlapText (leads (basis P))) out
 unfoldable pub listedInto : List ℕ → List ℕ → List ℕ
 unfolding listOutput listable
 listedInto bytes out = listOutput out (listable bytes)
-
--- A formula's bounds: 48 terms, words of 24 letters.
-abbrev pub formulaLimits : Limits
-formulaLimits = record { terms = 48; len = 24 }
-
--- How bringing a formula to its short form ends: refused with number and place, or its short form and the number of steps.
-pub data Reduction : Type 0 where
-  refusedBy : ℕ → ℕ → Reduction
-  shortForm : Poly → ℕ → Reduction
-
--- 17 and 18 as steps go; the place of 18 is the budget.
-unfoldable pub reductionOf : ℕ → Ended → Reduction
-reductionOf budget (answer N m) = shortForm N m
-reductionOf budget (over k) = refusedBy 17 k
-reductionOf budget spent = refusedBy 18 budget
-
--- 16 for a formula that does not read.
-unfoldable pub formulaReduced : Package → ℕ → FormulaOutcome → Reduction
-unfolding reductionOf run fieldOf wordOrder basis
-formulaReduced P budget (wrongAt n) = refusedBy 16 n
-formulaReduced P budget (formula f) = reductionOf budget (run 512 (fieldOf (P .head .p)) wordOrder (basis P) budget 0 f)
-
-unfoldable pub packageReduced : List ℕ → ℕ → Outcome → Reduction
-unfolding formulaReduced readFormula
-packageReduced text budget (refused n k) = refusedBy n k
-packageReduced text budget (read P) = formulaReduced P budget (readFormula (P .head .p) (P .head .letters) formulaLimits text)
-
--- Formula services judge the whole package, then 16, then 17 and 18 as steps go.
-unfoldable pub reduction : List ℕ → List ℕ → ℕ → Reduction
-unfolding packageReduced acceptance
-reduction bytes text budget = packageReduced text budget (acceptance bytes)
 
 -- Short form: the steps and the bytes of the short form, written as a formula; 19 where the room is too short, with the bytes required.
 unfoldable pub shortAnswer : ℕ → Reduction → Shortened

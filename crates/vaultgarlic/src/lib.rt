@@ -2,7 +2,10 @@
 // short form, and say whether it is in the ideal. No service keeps state, and none has a precondition: any bytes end in an answer or in a
 // refusal by its number.
 
+pub mod check;
 pub mod list;
+pub mod member;
+pub mod short;
 
 // What the check answers: the refusal's number and place, or 0 and 0, and the overlap count.
 #[repr(C)]

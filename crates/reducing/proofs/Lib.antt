@@ -1,0 +1,2 @@
+mod BasisLeads
+mod Reductions

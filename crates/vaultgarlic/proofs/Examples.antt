@@ -1,0 +1,90 @@
+-- Every row of the tables of examples (specs/Examples.antt) holds, by computation.
+use mathlib.Core.Path.{_≡_, refl}
+use lib.Dec.{lit<}
+use Rattle.words.specs.All.{All, done, _also_}
+use Rattle.words.specs.Order.{wordOrder}
+use Rattle.text.specs.Number.{writeNumber}
+use Rattle.text.specs.Word.{wordOf, writeWord}
+use Rattle.package.specs.Examples.{packageE}
+use Rattle.package.specs.Package.{Package, read, readPackage}
+use Rattle.package.specs.Writing.{writeFormula}
+use Rattle.overlaps.specs.Overlaps.{leads, overlaps}
+use Rattle.overlaps.specs.Listing.{overlapText}
+use Rattle.acceptance.specs.Content.{basis}
+use Rattle.accepting.specs.Acceptance.{acceptance}
+use Rattle.reducing.specs.Reduction.{packageReduced}
+use Rattle.vaultgarlic.specs.Services.{listable, checkedAs}
+use Rattle.vaultgarlic.specs.Demands.{AcceptedAs}
+use Rattle.vaultgarlic.specs.Examples.{Keeps, Empties, Claim, examples, packageNone, packageOne, edges}
+use Rattle.vaultgarlic.proofs.TrivialBases.{none-keeps, one-empties}
+use Rattle.vaultgarlic.proofs.Rows.{shortens, is-member, refuses, lacks-room, is-above, lists, accepts}
+
+-- What the check and listing take each package for, computed once.
+acceptedE : (P : Package) × (acceptance packageE ≡ read P)
+unfolding acceptance packageE
+acceptedE = (_, refl)
+
+listableE : (P : Package) × (listable packageE ≡ read P)
+unfolding listable packageE
+listableE = (_, refl)
+
+acceptedNone : (P : Package) × (acceptance packageNone ≡ read P)
+unfolding acceptance packageNone
+acceptedNone = (_, refl)
+
+acceptedOne : (P : Package) × (acceptance packageOne ≡ read P)
+unfolding acceptance packageOne
+acceptedOne = (_, refl)
+
+-- No relations and no basis: each formula is its own short form.
+acceptedAsNone : AcceptedAs packageNone (acceptedNone .0)
+unfolding acceptedNone readPackage checkedAs packageNone
+acceptedAsNone = record { reads = refl; answered = refl }
+
+keepsNone : Keeps packageNone
+unfolding acceptedNone basis
+keepsNone = record { content = acceptedNone .0; accepted = acceptedAsNone; same = λ text f r. none-keeps packageNone (acceptedNone .0) acceptedAsNone text f r refl }
+
+-- A constant relation with basis 1: every formula comes to zero.
+acceptedAsOne : AcceptedAs packageOne (acceptedOne .0)
+unfolding acceptedOne readPackage checkedAs packageOne
+acceptedAsOne = record { reads = refl; answered = refl }
+
+emptiesOne : Empties packageOne
+unfolding acceptedOne basis writeFormula
+emptiesOne = record { content = acceptedOne .0; accepted = acceptedAsOne; zero = λ text f r. one-empties packageOne (acceptedOne .0) acceptedAsOne text f r refl }
+
+-- 01's table of the rows marked †.
+pub examples-hold : All Claim examples
+unfolding Claim examples acceptedE listableE packageReduced writeFormula writeNumber writeWord wordOf wordOrder overlaps leads basis overlapText
+examples-hold =
+    shortens (acceptedE .1) refl refl
+    also shortens (acceptedE .1) refl refl
+    also shortens (acceptedE .1) refl refl
+    also shortens (acceptedE .1) refl refl
+    also shortens (acceptedE .1) refl refl
+    also shortens (acceptedE .1) refl refl
+    also is-above refl refl refl
+    also is-above refl refl refl
+    also is-above refl refl refl
+    also lists (listableE .1) refl refl
+    also accepts (acceptedE .1) refl
+    also done
+
+-- The rows that 01 does not mark.
+pub edges-hold : All Claim edges
+unfolding Claim edges acceptedE acceptedNone acceptedOne packageReduced writeFormula writeNumber writeWord overlaps leads basis
+edges-hold =
+    refuses (acceptedE .1) refl
+    also shortens (acceptedE .1) refl refl
+    also lacks-room (acceptedE .1) refl refl (lit< tt)
+    also refuses (acceptedE .1) refl
+    also is-member (acceptedE .1) refl
+    also is-member (acceptedE .1) refl
+    also accepts (acceptedNone .1) refl
+    also shortens (acceptedNone .1) refl refl
+    also keepsNone
+    also accepts (acceptedOne .1) refl
+    also shortens (acceptedOne .1) refl refl
+    also emptiesOne
+    also done

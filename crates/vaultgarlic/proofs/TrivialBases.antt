@@ -1,0 +1,145 @@
+-- Under an empty basis every formula is its own short form, and under the basis 1 every formula comes to zero, one term a step.
+use mathlib.Core.Path.{_≡_, refl, sym, _∙_, ap}
+use mathlib.Core.Bool.{Bool, true, false}
+use mathlib.Core.List.{List, [], _∷_}
+use Prim.Native.Nat.{ℕ, zero, suc, _+_, _≤_}
+use native.Mathlib.Nat.{zero-add}
+use native.Mathlib.Omega.{arith}
+use lib.Dec.{eqb, ltb}
+use lib.ListN.{length}
+use borrow.Author.Tests.{eq-eqb, le-ltb, ltb-true}
+use Rattle.field.specs.Field.{Operations, Field, fieldOf}
+use Rattle.field.proofs.Derived.{red-zero}
+use Rattle.words.specs.declared.Comparison.{Comparison}
+use Rattle.words.specs.declared.Comparison.the-variants.{Below, Equal, Above}
+use Rattle.words.specs.Word.{Word}
+use Rattle.words.specs.Order.{Order, Admissible, wordOrder}
+use Rattle.words.proofs.Admissible.{order-refl}
+use Rattle.words.proofs.WordOrder.{word-order-admissible}
+use Rattle.algebra.specs.Poly.{Term, Poly, scale, shift}
+use Rattle.algebra.specs.Written.{put, insert, plus}
+use Rattle.algebra.specs.Ideal.{family}
+use Rattle.algebra.specs.Groebner.{lead}
+use Rattle.algebra.specs.Spot.{firstBegins, nowhere, found, spotAt, spotFrom, spot, Target, reduced, reducible, targetOf, target}
+use Rattle.algebra.specs.Steps.{takeAway, lineAt, stepped, Ended, answer, over, spent, onward, run}
+use Rattle.package.specs.declared.Limits.{Limits}
+use Rattle.package.specs.Bounds.{coefFits, wordFits, isBelow}
+use Rattle.package.specs.Formula.{rowFits, formula, readFormula}
+use Rattle.package.specs.Package.{Package, read}
+use Rattle.package.specs.Readable.{RowsInOrder, noRows, rowThen}
+use Rattle.package.specs.Writing.{writeFormula}
+use Rattle.package.proofs.FormulaTexts.{formula-reads}
+use Rattle.package.proofs.PackageTexts.{reads-written}
+use Rattle.acceptance.specs.Content.{basis}
+use Rattle.acceptance.proofs.LineFacts.{both}
+use Rattle.acceptance.proofs.ReadableContent.{readable-field}
+use Rattle.accepting.specs.Acceptance.{acceptance}
+use Rattle.reducing.specs.Reduction.{formulaLimits, shortForm, reductionOf, formulaReduced, packageReduced}
+use Rattle.vaultgarlic.specs.Demands.{AcceptedAs, ReadAs}
+use Rattle.vaultgarlic.specs.Examples.{Shortens}
+use Rattle.vaultgarlic.proofs.Answers.{accepted-is, answered-fine}
+use Rattle.vaultgarlic.proofs.Rows.{shortens}
+
+-- No leading word stands in a word, so nothing is reducible.
+spot-none : (w : Word) (i : ℕ) → spotFrom [] w i ≡ nowhere
+unfolding spotFrom spotAt firstBegins
+spot-none [] i = refl
+spot-none (a ∷ w) i = spot-none w (suc i)
+
+target-none : (f : Poly) → target [] f ≡ reduced
+unfolding target targetOf spot
+target-none [] = refl
+target-none (t ∷ f) = ap (λ s. targetOf t s (target [] f)) (spot-none (t .word) 0) ∙ target-none f
+
+-- The basis whose one polynomial is 1.
+abbrev pub one : List Poly
+one = (record { coef = 1; word = [] } ∷ []) ∷ []
+
+-- The empty word stands in every word, so the first term is reducible.
+spot-one : (w : Word) → spot one w ≡ found 0 1
+unfolding spot spotFrom spotAt firstBegins
+spot-one [] = refl
+spot-one (a ∷ w) = refl
+
+target-one : (t : Term) (f : Poly) → target one (t ∷ f) ≡ reducible t 0 1
+unfolding target targetOf
+target-one t f = ap (λ s. targetOf t s (target one f)) (spot-one (t .word))
+
+module _ {K : Operations} (F : Field K) {O : Order} (A : Admissible O) where
+  open Operations K using (red, add, mul, neg)
+
+  -- The coefficient after the step is 0.
+  cancels : (c : ℕ) → red (add (mul (neg c) 1) c) ≡ 0
+  cancels c = rw (F .mul-one, F .red-neg, F .add-comm (neg c) c, F .add-neg) (red-zero F)
+
+  -- The step takes the term away.
+  stepped-one : (t : Term) (f : Poly) → stepped K O one (t ∷ f) t 0 1 ≡ f
+  unfolding stepped takeAway lineAt plus insert put scale shift family lead
+  stepped-one t f =
+      ap (λ (c : Comparison). elim c [
+        | Below ↦ t ∷ insert K O s f
+        | Equal ↦ put K (add (s .coef) (t .coef)) (t .word) f
+        | Above ↦ put K (s .coef) (s .word) (t ∷ f)
+      ]) (order-refl A (t .word))
+      ∙ ap (λ (b : Bool). elim b [ true ↦ f | false ↦ record { coef = red (add (s .coef) (t .coef)); word = t .word } ∷ f ])
+      (eq-eqb (red (add (mul (neg (t .coef)) 1) (t .coef))) 0 (cancels (t .coef)))
+    where
+      s : Term
+      s = record { coef = mul (neg (t .coef)) 1; word = t .word }
+
+  -- As many steps as there are terms leave zero.
+  run-one : (limit : ℕ) (f : Poly) (used : ℕ) → length f ≤ limit → run limit K O one (length f) used f ≡ answer [] (used + length f)
+  unfolding run onward target
+  run-one limit [] used h = ap (answer []) (omega arith)
+  run-one limit (t ∷ f) used h =
+      ap (onward after (t ∷ f) used) (target-one t f)
+      ∙ ap (λ (g : Poly). next (ltb limit (length g)) g) (stepped-one t f)
+      ∙ ap (λ (b : Bool). next b f) (le-ltb limit (length f) (omega arith))
+      ∙ run-one limit f (suc used) (omega arith)
+      ∙ ap (answer []) (omega arith)
+    where
+      next : Bool → Poly → Ended
+      next b g = elim b [ true ↦ over (suc used) | false ↦ run limit K O one (length f) (suc used) g ]
+
+      after : Term → ℕ → ℕ → Ended
+      after u i n = next (ltb limit (length (stepped K O one (t ∷ f) u i n))) (stepped K O one (t ∷ f) u i n)
+
+-- A formula that reads has at most 48 terms.
+rows-few : (p letters : ℕ) (m : Limits) (v : Word) (n : ℕ) (ts : Poly) → n ≤ m .terms → RowsInOrder p letters m v n ts → n + length ts ≤ m .terms
+unfolding rowFits
+rows-few p letters m v n [] h noRows = omega arith
+rows-few p letters m v n (t ∷ ts) h (rowThen e os) =
+    let fall : Bool = elim (eqb n 0) [ true ↦ true | false ↦ isBelow (t .word) v ] in
+    let room : Bool = elim (ltb n (m .terms)) [ false ↦ false | true ↦ fall ] in
+    let (a, e₁) = both (coefFits p (t .coef)) (elim (wordFits (m .len) letters (t .word)) [ false ↦ false | true ↦ room ]) e in
+    let (b, e₂) = both (wordFits (m .len) letters (t .word)) room e₁ in
+    let (d, e₃) = both (ltb n (m .terms)) fall e₂ in
+    let l = ltb-true n (m .terms) d in
+    let i = rows-few p letters m (t .word) (suc n) ts (omega arith) os in omega arith
+
+module _ (bytes : List ℕ) (P : Package) (acc : AcceptedAs bytes P) where
+  -- The check takes the bytes for P.
+  stands : acceptance bytes ≡ read P
+  stands = accepted-is bytes P (acc .reads) (answered-fine bytes P (acc .reads) (acc .answered))
+
+  module _ (text : List ℕ) (f : Poly) (reads : ReadAs P text f) where
+    -- The formula's bytes are the text of its terms, which are in order.
+    written : RowsInOrder (P .head .p) (P .head .letters) formulaLimits [] 0 f × (text ≡ writeFormula f)
+    written = formula-reads (P .head .p) (P .head .letters) formulaLimits text f reads
+
+    -- Under an empty basis each formula is its own short form.
+    pub none-keeps : basis P ≡ [] → Shortens bytes text text 0
+    unfolding packageReduced formulaReduced reductionOf run onward
+    none-keeps e =
+        shortens stands (ap (formulaReduced P 0) reads ∙ ap (λ (ps : List Poly). reductionOf 0 (run 512 (fieldOf (P .head .p)) wordOrder ps 0 0 f)) e
+        ∙ ap (λ (o : Target). reductionOf 0 (onward (λ t i n. spent) f 0 o)) (target-none f)) (sym (written .1))
+
+    -- Under the basis 1 every short form is zero, and each step takes one term.
+    pub one-empties : basis P ≡ one → Shortens bytes text (writeFormula []) (length f)
+    unfolding packageReduced formulaReduced reductionOf
+    one-empties e =
+        let F = readable-field P (reads-written P bytes (acc .reads) .0) in
+        let l = rows-few (P .head .p) (P .head .letters) formulaLimits [] 0 f (omega arith) (written .0) in
+        shortens stands (ap (formulaReduced P (length f)) reads
+        ∙ ap (λ (ps : List Poly). reductionOf (length f) (run 512 (fieldOf (P .head .p)) wordOrder ps (length f) 0 f)) e
+        ∙ ap (reductionOf (length f)) (run-one F word-order-admissible 512 f 0 (omega arith) ∙ ap (answer []) (zero-add (length f)))) refl
