@@ -5,6 +5,7 @@
 
 pub mod check;
 pub mod formula;
+pub mod generate;
 pub mod json;
 pub mod leads;
 pub mod lines;

@@ -41,7 +41,7 @@ pub struct Package {
 
 /// Whether p is a prime from 2 to 65,521, by trial of every smaller divisor up to the root.
 pub fn prime_in_bounds(p: u64) -> bool {
-    (2..=65_521).contains(&p) && (2..p).take_while(|d| d * d <= p).all(|d| p % d != 0)
+    (2..=65_521).contains(&p) && (2..p).take_while(|d| d * d <= p).all(|d| !p.is_multiple_of(d))
 }
 
 /// Whether a word has at most 24 letters, all among the first `letters` of the alphabet.

@@ -1,0 +1,70 @@
+//! The inputs that every run begins with: rows with known answers, and both sides of every bound.
+
+use crate::input::{Input, Service, SERVICES};
+use crate::surround::{around_formula, around_list, Sink};
+use oracle::formula::formula_text;
+use oracle::generate::bound_packages::bound_packages;
+use oracle::generate::edits::E;
+use oracle::generate::families;
+use oracle::generate::formula_rows::formula_rows;
+use oracle::generate::growth::{spreading, spreading_formula};
+use oracle::generate::package_rows::package_rows;
+use oracle::generate::random::Random;
+
+pub fn fixed(sink: Sink) {
+    let random = &mut Random::new(0, 1);
+    empty_slices(sink);
+    let formula = b"coef word\n1 ab\n";
+    for row in package_rows().iter().chain(&bound_packages()) {
+        for service in SERVICES {
+            let input =
+                Input { service, package: &row.package, formula, budget: 2, out_len: 300_000, null: false };
+            sink(&input);
+        }
+        around_list(random, &row.package, sink);
+    }
+    for row in formula_rows() {
+        for service in [Service::ShortForm, Service::Member] {
+            let (formula, budget) = (&row.formula[..], row.budget);
+            sink(&Input { service, package: E.as_bytes(), formula, budget, out_len: 100, null: false });
+        }
+        around_formula(random, E.as_bytes(), &row.formula, sink);
+    }
+    for draft in [families::empty(7, 2), families::zero_relations(7, 2, 32), families::constant(7, 2, 3)] {
+        let package = draft.text();
+        for row in formula_rows() {
+            around_formula(random, &package, &row.formula, sink);
+        }
+    }
+    growing(random, sink);
+}
+
+/// Slices of length 0, as NULL and not.
+fn empty_slices(sink: Sink) {
+    let (package, formula) = (E.as_bytes(), &b"coef word\n1 ab\n"[..]);
+    for null in [false, true] {
+        for service in SERVICES {
+            for package in [package, b""] {
+                for formula in [formula, b""] {
+                    for out_len in [0, 100] {
+                        sink(&Input { service, package, formula, budget: 1, out_len, null });
+                    }
+                }
+            }
+        }
+    }
+}
+
+/// Formulas that grow to 512 terms and over. A basis polynomial of t terms makes 48 + k (t - 2) terms of 48
+/// in k steps: 512 for t 31 and k 16, 513 for t 33 and k 15, and t 48 is the example of the paper.
+fn growing(random: &mut Random, sink: Sink) {
+    for p in [2, 7, 65_521] {
+        for terms in [31, 33, 48] {
+            let package = spreading(random, p, terms).text();
+            for reducible in [10, 11, 14, 15, 16, 17, 48] {
+                let formula = formula_text(&spreading_formula(random, p, 48, reducible));
+                around_formula(random, &package, &formula, sink);
+            }
+        }
+    }
+}

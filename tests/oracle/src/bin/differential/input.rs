@@ -1,0 +1,59 @@
+//! An input: one call of one service.
+
+#[derive(Clone, Copy, Debug, PartialEq, Eq)]
+pub enum Service {
+    Check,
+    List,
+    ShortForm,
+    Member,
+}
+
+pub const SERVICES: [Service; 4] = [Service::Check, Service::List, Service::ShortForm, Service::Member];
+
+impl Service {
+    pub fn name(self) -> &'static str {
+        match self {
+            Service::Check => "check",
+            Service::List => "listing",
+            Service::ShortForm => "short form",
+            Service::Member => "membership",
+        }
+    }
+
+    /// Whether the archive has this service.
+    pub fn is_served(self) -> bool {
+        self == Service::List || !cfg!(feature = "listing-only")
+    }
+
+    /// Whether the service can answer with this number: 0 for success, else a refusal.
+    pub fn can_answer(self, number: usize) -> bool {
+        match self {
+            Service::Check => number <= 15,
+            Service::List => number <= 9 || number == 19,
+            Service::ShortForm => number <= 19,
+            Service::Member => number <= 18,
+        }
+    }
+}
+
+/// Whatever a service does not take is not looked at.
+#[derive(Clone, Debug)]
+pub struct Input<'a> {
+    pub service: Service,
+    pub package: &'a [u8],
+    pub formula: &'a [u8],
+    pub budget: u32,
+    pub out_len: usize,
+    /// Slices of length 0 are handed over as NULL.
+    pub null: bool,
+}
+
+/// The numbers of an answer in the order of the C structs: the last is bytes written, or membership, or 0
+/// where a struct has three fields.
+#[derive(Clone, Copy, Debug, PartialEq, Eq)]
+pub struct Numbers {
+    pub number: u64,
+    pub place: u64,
+    pub count: u64,
+    pub last: u64,
+}

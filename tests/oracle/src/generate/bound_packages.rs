@@ -1,0 +1,144 @@
+//! Packages on both sides of the bounds on sizes.
+
+use crate::generate::draft::{Draft, Sum, Term};
+use crate::generate::dress::add_cancelling;
+use crate::generate::edits::E;
+use crate::generate::families::{copies_of_e, monomials, without_overlaps};
+use crate::generate::growth::{growing_sum, Lines};
+use crate::generate::package_rows::Row;
+use crate::generate::random::Random;
+use crate::poly::Poly;
+use crate::word::Word;
+
+pub fn bound_packages() -> Vec<Row> {
+    let random = &mut Random::new(0, 0);
+    let mut rows = Vec::new();
+    let mut put = |package: Vec<u8>, number: u64, place: u64, overlaps: u64| {
+        rows.push(Row { package, check: (number, place, overlaps) })
+    };
+    for p in [2, 7, 65_521] {
+        // 48 terms in G 1 and in B 1, one more in order, and one more that repeats a word.
+        put(one_polynomial(p, 48).text(), 0, 0, 0);
+        put(one_polynomial(p, 49).text(), 7, 52, 0);
+        let mut repeating = one_polynomial(p, 48);
+        repeating.terms.insert(48, repeating.terms[0].clone());
+        put(repeating.text(), 6, 52, 0);
+        let mut basis_49 = one_polynomial(p, 48);
+        basis_49.terms.push(Term { kind: 'B', item: 1, coef: 1, word: Word::empty() });
+        put(basis_49.text(), 7, 100, 0);
+        // 512 and 513 terms in a sum of each kind. The lines stand below 4 names lines and values, terms,
+        // and the sums above.
+        for kind in ['B', 'G', 'O'] {
+            for top in [512, 513] {
+                let draft = growing_sum(random, p, kind, top, Lines::UpAndDown);
+                let first = draft.sums.iter().position(|sum| sum.left == Word::new("c"));
+                let line = 4 + draft.terms.len() + first.expect("a growing line") + 11;
+                let (number, place) = if top == 512 { (0, 0) } else { (10, line as u64) };
+                put(draft.text(), number, place, if top == 512 { 4 } else { 0 });
+            }
+        }
+        // 32 relations and 64 basis polynomials.
+        put(copies_of_e(p, 32).text(), 0, 0, 64);
+    }
+    // 1,024 term lines, the 1,025th in order, the same of wrong shape, and the same out of bounds.
+    let full = without_overlaps(random, 7, 32, 16).expect("no overlaps");
+    put(full.text(), 0, 0, 0);
+    let mut over = full.clone();
+    over.terms.push(Term { kind: 'B', item: 32, coef: 1, word: Word::empty() });
+    put(over.text(), 7, 1028, 0);
+    let text =
+        |line: &str| String::from_utf8_lossy(&over.text()).replacen("B 32 1 -\n", line, 1).into_bytes();
+    put(text("B 32 1\n"), 2, 1028, 0);
+    put(text("B 32 7 -\n"), 5, 1028, 0);
+    put(text("B 31 1 -\n"), 6, 1028, 0);
+    // 65,536 bytes, and more of a package that would be accepted.
+    for bytes in [65_535, 65_536] {
+        put(padded_e(bytes), 0, 0, 2);
+    }
+    for bytes in [65_537, 65_538] {
+        put(padded_e(bytes), 1, 0, 0);
+    }
+    put([&padded_e(65_536)[..], b"\n"].concat(), 1, 0, 0);
+    put([&padded_e(65_535)[..], b"\n"].concat(), 2, padded_lines(65_535) + 1, 0);
+    // Many overlaps: 4,324 where the shared letters are all `a`, and 276 where they hold the `b`. The list of
+    // these 24 words has 250,130 bytes.
+    let words: Vec<Word> =
+        (0..24).map(|i| Word([vec![b'a'; i], vec![b'b'], vec![b'a'; 23 - i]].concat())).collect();
+    let many = monomials(7, 2, &words);
+    put(many.text(), 0, 0, 4600);
+    let mut at_count = many.clone();
+    add_cancelling(&mut at_count, 'O', 4600, 3, &Word::empty(), 1, &Word::empty());
+    put(at_count.text(), 0, 0, 4600);
+    let mut over_count = many;
+    add_cancelling(&mut over_count, 'O', 4601, 3, &Word::empty(), 1, &Word::empty());
+    let line = 4 + over_count.terms.len() + 48 + 1;
+    put(over_count.text(), 15, line as u64, 0);
+    rows
+}
+
+/// One relation of `terms` terms over 26 letters, which is its own basis and overlaps nothing.
+fn one_polynomial(p: u64, terms: usize) -> Draft {
+    let lower = (b'b'..=b'd').flat_map(|x| (b'b'..=b'z').map(move |y| Word(vec![x, y])));
+    let mut f: Poly = lower.take(terms - 1).map(|word| (word, p - 1)).collect();
+    f.insert(Word::new("ab"), 1);
+    let mut draft = Draft::of(p, 26, &[f.clone()], &[f]);
+    for kind in ['B', 'G'] {
+        draft.sums.push(Sum::new(kind, 1, 1, &Word::empty(), 1, &Word::empty()));
+    }
+    draft
+}
+
+/// E with G lines that cancel, so that it has exactly so many bytes.
+fn padded_e(bytes: usize) -> Vec<u8> {
+    let (head, tail) = E.split_at(E.find("O 1 ").expect("an O line"));
+    let mut text = head.to_string();
+    // Three lines with coefficients 1, 2 and 4 add up to 0, and two lines with 1 and 6. A line with left of n
+    // letters has 11 + n bytes.
+    let mut missing = bytes - E.len();
+    if missing % 2 == 1 {
+        let left = "b".repeat(4);
+        text += &format!("G 1 1 {left} 1 -\nG 1 2 {left} 1 -\nG 1 4 {left} 1 -\n");
+        missing -= 45;
+    }
+    while missing > 0 {
+        // Two lines have 24 to 70 bytes, and no fewer than 24 may be left over.
+        let letters = if missing <= 70 {
+            missing / 2 - 11
+        } else if missing <= 100 {
+            1
+        } else {
+            1 + missing % 20
+        };
+        text += &format!("G 1 1 {0} 1 -\nG 1 6 {0} 1 -\n", "b".repeat(letters));
+        missing -= 2 * (11 + letters);
+    }
+    (text + tail).into_bytes()
+}
+
+fn padded_lines(bytes: usize) -> u64 {
+    padded_e(bytes).iter().filter(|byte| **byte == 10).count() as u64
+}
+
+#[cfg(test)]
+mod tests {
+    use super::*;
+    use crate::services::{check, list_overlaps};
+
+    #[test]
+    fn rows_hold() {
+        for row in bound_packages() {
+            let answer = check(&row.package);
+            let text = String::from_utf8_lossy(&row.package[..row.package.len().min(600)]).into_owned();
+            assert_eq!((answer.number, answer.place, answer.count), row.check, "{text}");
+        }
+    }
+
+    #[test]
+    fn sizes_are_exact() {
+        for bytes in [300, 301, 1000, 1001, 65_535, 65_536] {
+            assert_eq!(padded_e(bytes).len(), bytes);
+        }
+        let longest = bound_packages().iter().map(|row| list_overlaps(&row.package, 0).place).max();
+        assert_eq!(longest, Some(250_130));
+    }
+}

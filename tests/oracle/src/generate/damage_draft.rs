@@ -1,0 +1,207 @@
+//! Damage to a package with a refusal in view: each target changes what that refusal judges.
+
+use crate::generate::draft::{Draft, Sum, Term};
+use crate::generate::dress::add_cancelling;
+use crate::generate::random::Random;
+use crate::overlaps::{overlaps, Overlap};
+use crate::poly::{lead, lead_word, negative, Poly};
+use crate::word::Word;
+
+/// Changes the draft towards one of the refusals 3 to 15 (1 and 2 are reached by damage to the text, 7 and
+/// 10 by packages of their own). The draft may stay as it was when it has nothing to change.
+pub fn aim(random: &mut Random, draft: &mut Draft, number: u64) {
+    if draft.p < 2 || !(1..=26).contains(&draft.letters) {
+        // Damaged before: there are no coefficients or no letters to choose from.
+        return;
+    }
+    match number {
+        3 => draft.p = *random.pick(&[0, 1, 4, 9, 25, 961, 63_001, 65_519, 65_533, 65_536, 65_537, 99_999]),
+        4 => match random.below(4) {
+            0 => draft.letters = *random.pick(&[0, 27, 99_999]),
+            1 => draft.gens = *random.pick(&[33, 64, 65_537]),
+            2 => draft.basis = *random.pick(&[65, 256, 65_600]),
+            _ => (draft.p, draft.letters) = (9, 27),
+        },
+        5 => out_of_bounds(random, draft),
+        6 => out_of_order(random, draft),
+        8 => bad_lead(random, draft),
+        9 => holding_lead(random, draft),
+        11 => change_sum(random, draft, 'B'),
+        12 => change_sum(random, draft, 'G'),
+        13 => change_sum(random, draft, 'O'),
+        14 => not_below(random, draft),
+        15 => above_count(random, draft),
+        _ => change_coefficient(random, draft),
+    }
+}
+
+fn out_of_bounds(random: &mut Random, draft: &mut Draft) {
+    let (p, letters) = (draft.p, draft.letters);
+    let bad_coef = *random.pick(&[0, p, p + 1, 99_999]);
+    let bad_word = |random: &mut Random| match random.below(3) {
+        0 if letters < 26 => Word(vec![b'a', b'a' + letters as u8]),
+        1 => Word(vec![b'a'; 24]),
+        _ => Word(vec![b'a'; random.between(25, 60) as usize]),
+    };
+    if random.one_in(2) && !draft.terms.is_empty() {
+        let index = random.index(&draft.terms);
+        let count = if draft.terms[index].kind == 'G' { draft.gens } else { draft.basis };
+        let term = &mut draft.terms[index];
+        match random.below(3) {
+            0 => term.coef = bad_coef,
+            1 => term.item = *random.pick(&[0, count + 1, 99_999]),
+            _ => term.word = bad_word(random),
+        }
+    } else if !draft.sums.is_empty() {
+        let index = random.index(&draft.sums);
+        let (items, polys) = match draft.sums[index].kind {
+            'B' => (draft.basis, draft.gens),
+            'G' => (draft.gens, draft.basis),
+            _ => (99_998, draft.basis),
+        };
+        let sum = &mut draft.sums[index];
+        match random.below(5) {
+            0 => sum.coef = bad_coef,
+            1 => sum.item = *random.pick(&[0, items + 1]),
+            2 => sum.of = *random.pick(&[0, polys, polys + 1, 99_999]),
+            3 => sum.left = bad_word(random),
+            _ => sum.right = bad_word(random),
+        }
+    }
+}
+
+fn out_of_order(random: &mut Random, draft: &mut Draft) {
+    if random.one_in(2) && draft.terms.len() > 1 {
+        let (one, other) = (random.index(&draft.terms), random.index(&draft.terms));
+        match random.below(3) {
+            0 => draft.terms.swap(one, other),
+            1 => draft.terms.insert(one, draft.terms[one].clone()),
+            _ => draft.terms.swap(one.max(1) - 1, one.max(1)),
+        }
+    } else if draft.sums.len() > 1 {
+        let (one, other) = (random.index(&draft.sums), random.index(&draft.sums));
+        draft.sums.swap(one, other);
+    }
+}
+
+/// A basis polynomial that is zero or leads with another coefficient.
+fn bad_lead(random: &mut Random, draft: &mut Draft) {
+    let item = random.between(1, draft.basis.max(1));
+    match random.below(3) {
+        0 if draft.basis < 64 => draft.basis += random.between(1, 64 - draft.basis),
+        1 => draft.terms.retain(|term| (term.kind, term.item) != ('B', item)),
+        _ => {
+            if let Some(term) = draft.terms.iter_mut().find(|term| (term.kind, term.item) == ('B', item)) {
+                term.coef = random.coef(draft.p);
+            }
+        }
+    }
+}
+
+/// A leading word with another's inside, or equal to it, or just not.
+fn holding_lead(random: &mut Random, draft: &mut Draft) {
+    let basis = draft.polys('B');
+    if basis.iter().filter_map(lead).count() < 2 {
+        return;
+    }
+    let (into, from) = (random.index(&basis), random.index(&basis));
+    let Some((inner, _)) = lead(&basis[from]) else { return };
+    let alphabet: Vec<u8> = (b'a'..b'a' + draft.letters as u8).collect();
+    let mut word =
+        random.word_between(&alphabet, 0, 2).times(inner).times(&random.word_between(&alphabet, 0, 2));
+    if random.one_in(4) {
+        word.0.pop();
+    }
+    let mut kept: Vec<Term> = draft.terms.clone();
+    kept.retain(|term| (term.kind, term.item) != ('B', into as u64 + 1) || term.word < word);
+    let at = kept.iter().position(|term| term.kind == 'B' && term.item > into as u64);
+    let new = Term { kind: 'B', item: into as u64 + 1, coef: 1, word };
+    kept.insert(at.unwrap_or(kept.len()), new);
+    draft.terms = kept;
+}
+
+/// A sum of this kind, or of any when there is none, that is most likely wrong.
+fn change_sum(random: &mut Random, draft: &mut Draft, kind: char) {
+    let mut lines: Vec<usize> =
+        (0..draft.sums.len()).filter(|index| draft.sums[*index].kind == kind).collect();
+    if lines.is_empty() {
+        lines = (0..draft.sums.len()).collect();
+    }
+    if lines.is_empty() {
+        return change_coefficient(random, draft);
+    }
+    let index = *random.pick(&lines);
+    match random.below(6) {
+        0 => drop(draft.sums.remove(index)),
+        1 => draft.sums.insert(index, draft.sums[index].clone()),
+        2 => draft.sums[index].coef = random.coef(draft.p),
+        3 => draft.sums[index].left.0.push(b'a'),
+        4 => {
+            let Sum { left, right, .. } = &mut draft.sums[index];
+            std::mem::swap(left, right);
+        }
+        _ => {
+            let item = draft.sums[index].item;
+            draft.sums.retain(|sum| (sum.kind, sum.item) != (kind, item));
+        }
+    }
+}
+
+/// Another coefficient for a term, so that some sum most likely goes wrong.
+fn change_coefficient(random: &mut Random, draft: &mut Draft) {
+    if !draft.terms.is_empty() {
+        let index = random.index(&draft.terms);
+        draft.terms[index].coef = random.coef(draft.p);
+    }
+}
+
+/// A draft's overlaps, where its basis polynomials are not zero.
+fn draft_overlaps(draft: &Draft) -> (Vec<Poly>, Vec<Overlap>) {
+    let basis = draft.polys('B');
+    let list = if basis.iter().all(|f| !f.is_empty()) { overlaps(&basis) } else { Vec::new() };
+    (basis, list)
+}
+
+/// O lines whose product is at, just below or above the overlap word.
+fn not_below(random: &mut Random, draft: &mut Draft) {
+    let (basis, list) = draft_overlaps(draft);
+    if list.is_empty() {
+        return;
+    }
+    let index = random.index(&list);
+    let item = index as u64 + 1;
+    let Overlap { first, second, shared } = list[index].clone();
+    let (u, v) = (lead_word(&basis[first as usize - 1]), lead_word(&basis[second as usize - 1]));
+    let begin = Word(u.0[..u.len() - shared as usize].to_vec());
+    let rest = Word(v.0[shared as usize..].to_vec());
+    let none = Word::empty();
+    if random.one_in(2) {
+        // The overlap is certified by its own two products.
+        draft.sums.retain(|sum| (sum.kind, sum.item) != ('O', item));
+        draft.sums.push(Sum::new('O', item, 1, &none, first, &rest));
+        draft.sums.push(Sum::new('O', item, negative(draft.p, 1), &begin, second, &none));
+    } else {
+        let of = random.between(1, draft.basis);
+        let alphabet: Vec<u8> = (b'a'..b'a' + draft.letters as u8).collect();
+        let (left, right) = match random.below(4) {
+            0 => (begin, none),
+            1 => (none, rest),
+            2 => (Word(vec![b'a' + draft.letters as u8 - 1; 24]), none),
+            _ => (random.word_between(&alphabet, 0, 3), random.word_between(&alphabet, 0, 3)),
+        };
+        let coef = random.coef(draft.p);
+        add_cancelling(draft, 'O', item, coef, &left, of, &right);
+    }
+    draft.sort_sums();
+}
+
+/// An O line with an item at or above the overlap count.
+fn above_count(random: &mut Random, draft: &mut Draft) {
+    let (_, list) = draft_overlaps(draft);
+    let count = list.len() as u64;
+    let item = *random.pick(&[count.max(1), count + 1, count + 2, 99_999]);
+    let of = random.between(1, draft.basis.max(1));
+    let none = Word::empty();
+    draft.sums.push(Sum::new('O', item, random.coef(draft.p), &none, of, &none));
+    draft.sort_sums();
+}

@@ -1,0 +1,20 @@
+//! Generators of inputs for the differential test.
+
+pub mod bound_packages;
+pub mod certify;
+pub mod completion;
+pub mod damage_draft;
+pub mod damage_text;
+pub mod draft;
+pub mod dress;
+pub mod edits;
+pub mod examples;
+pub mod families;
+pub mod formula_rows;
+pub mod formulas;
+pub mod growth;
+pub mod package_rows;
+pub mod random;
+pub mod relations;
+pub mod stretch;
+pub mod valid;
