@@ -76,6 +76,22 @@ pub fn bound_packages() -> Vec<Row> {
     rows
 }
 
+/// A package near a bound on sizes: terms in an item, term lines, or bytes.
+pub fn near_bound(random: &mut Random, p: u64) -> Vec<u8> {
+    match random.below(3) {
+        0 => one_polynomial(p, random.between(46, 50) as usize).text(),
+        1 => {
+            let mut draft = without_overlaps(random, p, 32, 16).expect("no overlaps");
+            // No, one or two terms over 1,024.
+            for word in ["z", ""].iter().take(random.below(3) as usize) {
+                draft.terms.push(Term { kind: 'B', item: 32, coef: 1, word: Word::new(word) });
+            }
+            draft.text()
+        }
+        _ => padded_e(random.between(65_530, 65_540) as usize),
+    }
+}
+
 /// One relation of `terms` terms over 26 letters, which is its own basis and overlaps nothing.
 fn one_polynomial(p: u64, terms: usize) -> Draft {
     let lower = (b'b'..=b'd').flat_map(|x| (b'b'..=b'z').map(move |y| Word(vec![x, y])));

@@ -98,6 +98,16 @@ pub fn copies_of_e(p: u64, copies: u64) -> Draft {
     draft
 }
 
+/// A counter of so many bits: `a` is 1, `b` is 0, `c` is the end. The polynomials `a b..b c` - `b a..a c` take one
+/// from a number, and their leading words never overlap. The word of n times `a` and a `c` takes 2^n - 1 steps.
+pub fn counter(p: u64, bits: usize) -> Draft {
+    let word =
+        |first: u8, rest: u8, count: usize| Word([vec![first], vec![rest; count], vec![b'c']].concat());
+    let count_down =
+        |zeros: usize| Poly::from([(word(b'a', b'b', zeros), 1), (word(b'b', b'a', zeros), p - 1)]);
+    own_basis(p, 3, &(0..bits).map(count_down).collect::<Vec<_>>()).expect("no overlaps")
+}
+
 /// Basis polynomials with leading words that begin with `a` and have no other `a`, of one length: they never
 /// overlap and never hold one another, whatever the lower terms are.
 pub fn without_overlaps(random: &mut Random, p: u64, polys: u64, terms: u64) -> Option<Draft> {

@@ -137,6 +137,13 @@ mod tests {
     }
 
     #[test]
+    fn a_counter_counts() {
+        let package = crate::generate::families::counter(7, 9).text();
+        let answer = short_form(&package, &text("1 aaaaaaaaac"), u32::MAX, 99);
+        assert_eq!((answer.number, answer.count, answer.output), (0, 511, Some(text("1 bbbbbbbbbc"))));
+    }
+
+    #[test]
     fn a_constant_basis_takes_a_step_for_each_term() {
         let package = crate::generate::families::constant(7, 2, 3).text();
         let formula = text("1 ab,6 b,3 -");

@@ -38,12 +38,13 @@ fn family(random: &mut Random) -> Draft {
     let p = prime(random);
     let size = random.between(1, 4);
     let (letters, alphabet) = alphabet(random, size);
-    match random.below(8) {
+    match random.below(9) {
         0 => families::empty(p, letters),
         1 => families::constant(p, letters, random.coef(p)),
         2 => families::zero_relations(p, letters, random.between(1, 32) as usize),
         3 => families::copies_of_e(p, random.between(1, 6)),
-        4 => {
+        4 => families::counter(p, random.between(1, 12) as usize),
+        5 => {
             let (polys, terms) = (random.between(1, 6), random.between(1, 48));
             families::without_overlaps(random, p, polys, terms).unwrap_or_else(|| families::empty(p, letters))
         }

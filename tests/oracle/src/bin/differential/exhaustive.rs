@@ -9,7 +9,7 @@ const FORMULA: &[u8] = b"coef word\n1 aba\n";
 
 pub fn exhaustive(sink: Sink) {
     for end in 0..E.len() {
-        all_services(E[..end].as_bytes(), FORMULA, sink);
+        all_services(&E.as_bytes()[..end], FORMULA, sink);
     }
     for end in 0..FORMULA.len() {
         all_services(E.as_bytes(), &FORMULA[..end], sink);

@@ -10,6 +10,7 @@ use oracle::generate::formula_rows::formula_rows;
 use oracle::generate::growth::{spreading, spreading_formula};
 use oracle::generate::package_rows::package_rows;
 use oracle::generate::random::Random;
+use oracle::services::short_form;
 
 pub fn fixed(sink: Sink) {
     let random = &mut Random::new(0, 1);
@@ -37,6 +38,7 @@ pub fn fixed(sink: Sink) {
         }
     }
     growing(random, sink);
+    counting(sink);
 }
 
 /// Slices of length 0, as NULL and not.
@@ -64,7 +66,23 @@ fn growing(random: &mut Random, sink: Sink) {
             for reducible in [10, 11, 14, 15, 16, 17, 48] {
                 let formula = formula_text(&spreading_formula(random, p, 48, reducible));
                 around_formula(random, &package, &formula, sink);
+                // A short form of more than 48 terms does not read as a formula.
+                if let Some(output) = short_form(&package, &formula, u32::MAX, usize::MAX).output {
+                    around_formula(random, &package, &output, sink);
+                }
             }
         }
+    }
+}
+
+/// 2^17 - 1 steps: more than 16 bits count.
+fn counting(sink: Sink) {
+    let package = &families::counter(65_521, 17).text()[..];
+    let formula = &b"coef word\n1 aaaaaaaaaaaaaaaaac\n"[..];
+    let steps = (1 << 17) - 1;
+    for (service, budget) in
+        [(Service::ShortForm, steps), (Service::ShortForm, steps - 1), (Service::Member, u32::MAX)]
+    {
+        sink(&Input { service, package, formula, budget, out_len: 100, null: false });
     }
 }

@@ -3,6 +3,7 @@
 use crate::input::{Input, SERVICES};
 use crate::surround::{around_formula, around_list, Sink};
 use oracle::formula::formula_text;
+use oracle::generate::bound_packages::near_bound;
 use oracle::generate::damage_draft::aim;
 use oracle::generate::damage_text::damage;
 use oracle::generate::draft::Draft;
@@ -54,6 +55,14 @@ pub fn round(random: &mut Random, examples: &[Draft], sink: Sink) {
     }
     if random.one_in(8) {
         growing(random, sink);
+    }
+    if random.one_in(16) {
+        let p = prime(random);
+        let mut package = near_bound(random, p);
+        if random.one_in(2) {
+            package = damage(random, &package);
+        }
+        all_services(random, &package, b"coef word\n1 abab\n", sink);
     }
 }
 
