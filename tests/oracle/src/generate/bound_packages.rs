@@ -62,8 +62,7 @@ pub fn bound_packages() -> Vec<Row> {
     put([&padded_e(65_535)[..], b"\n"].concat(), 2, padded_lines(65_535) + 1, 0);
     // Many overlaps: 4,324 where the shared letters are all `a`, and 276 where they hold the `b`. The list of
     // these 24 words has 250,130 bytes.
-    let words: Vec<Word> =
-        (0..24).map(|i| Word([vec![b'a'; i], vec![b'b'], vec![b'a'; 23 - i]].concat())).collect();
+    let words: Vec<Word> = (0..24).map(|i| one_other(i, b'b')).collect();
     let many = monomials(7, 2, &words);
     put(many.text(), 0, 0, 4600);
     let mut at_count = many.clone();
@@ -73,7 +72,16 @@ pub fn bound_packages() -> Vec<Row> {
     add_cancelling(&mut over_count, 'O', 4601, 3, &Word::empty(), 1, &Word::empty());
     let line = 4 + over_count.terms.len() + 48 + 1;
     put(over_count.text(), 15, line as u64, 0);
+    // 64 basis polynomials of this kind, for the listing: there are no relations, so the first sum is wrong.
+    let basis: Vec<Poly> =
+        (0..64).map(|i| Poly::from([(one_other(i % 24, b'b' + i as u8 / 24), 1)])).collect();
+    put(Draft::of(7, 4, &[], &basis).text(), 11, 1, 0);
     rows
+}
+
+/// A word of 24 letters, all `a` but one.
+fn one_other(place: usize, letter: u8) -> Word {
+    Word([vec![b'a'; place], vec![letter], vec![b'a'; 23 - place]].concat())
 }
 
 /// A package near a bound on sizes: terms in an item, term lines, or bytes.
@@ -154,7 +162,8 @@ mod tests {
         for bytes in [300, 301, 1000, 1001, 65_535, 65_536] {
             assert_eq!(padded_e(bytes).len(), bytes);
         }
-        let longest = bound_packages().iter().map(|row| list_overlaps(&row.package, 0).place).max();
-        assert_eq!(longest, Some(250_130));
+        let places: Vec<u64> =
+            bound_packages().iter().map(|row| list_overlaps(&row.package, 0).place).collect();
+        assert!(places.contains(&250_130) && places.iter().any(|place| *place > 1_000_000));
     }
 }

@@ -30,20 +30,27 @@ pub fn expect(input: &Input) -> Expected {
 /// Calls the library and compares. The buffer begins with random bytes, so that a byte written without need
 /// is seen. None: nothing differs.
 pub fn difference(random: &mut Random, input: &Input, expected: &Expected) -> Option<String> {
-    let before: Vec<u8> = (0..input.out_len + 2 * GUARD).map(|_| random.number() as u8).collect();
-    let mut buffer = before.clone();
+    let mut wanted: Vec<u8> = (0..input.out_len + 2 * GUARD).map(|_| random.number() as u8).collect();
+    let mut buffer = wanted.clone();
     let numbers = ffi::call(input, &mut buffer[GUARD..GUARD + input.out_len]);
-    if numbers != expected.numbers {
-        return Some(format!("the oracle answers {:?}\nthe library answers {numbers:?}", expected.numbers));
-    }
-    let mut wanted = before;
     wanted[GUARD..GUARD + expected.output.len()].copy_from_slice(&expected.output);
-    let at = (0..wanted.len()).find(|index| wanted[*index] != buffer[*index])?;
-    Some(format!(
-        "byte {} of the output differs: the oracle has {}, the library {}\nthe oracle writes\n{}",
-        at as i64 - GUARD as i64,
-        wanted[at],
-        buffer[at],
-        String::from_utf8_lossy(&expected.output)
-    ))
+    let differing = (0..wanted.len()).find(|index| wanted[*index] != buffer[*index]);
+    if numbers == expected.numbers && differing.is_none() {
+        return None;
+    }
+    let mut message = format!("the oracle answers {:?}\nthe library answers {numbers:?}\n", expected.numbers);
+    if let Some(index) = differing {
+        // As many bytes as the longer of the two outputs has; what was not written shows as it was before.
+        let written = if input.service == Service::Member { 0 } else { numbers.last as usize };
+        let end = GUARD + written.max(expected.output.len()).min(input.out_len);
+        message += &format!("the first differing byte of the output is {}\n", index as i64 - GUARD as i64);
+        message += &format!("the oracle's output:\n{}\n", shown(&wanted[GUARD..end]));
+        message += &format!("the library's output:\n{}\n", shown(&buffer[GUARD..end]));
+    }
+    Some(message)
+}
+
+/// Bytes as text: byte 10 ends a line, other bytes that cannot be seen are escaped.
+pub fn shown(bytes: &[u8]) -> String {
+    bytes.escape_ascii().to_string().replace("\\n", "\n")
 }

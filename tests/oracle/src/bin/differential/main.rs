@@ -17,6 +17,7 @@ mod surround;
 mod tally;
 
 use casefile::CaseFile;
+use compare::shown;
 use input::Input;
 use options::Options;
 use oracle::generate::examples::examples;
@@ -66,15 +67,10 @@ impl Run {
             "budget {}, output of {} bytes, NULL for no bytes: {}",
             input.budget, input.out_len, input.null
         );
-        println!("{message}");
+        print!("{message}");
         println!("package of {} bytes:\n{}", input.package.len(), shown(input.package));
         println!("formula of {} bytes:\n{}", input.formula.len(), shown(input.formula));
     }
-}
-
-/// Bytes as text: byte 10 ends a line, other bytes that cannot be seen are escaped.
-fn shown(bytes: &[u8]) -> String {
-    bytes.escape_ascii().to_string().replace("\\n", "\n")
 }
 
 fn main() {
