@@ -5,7 +5,7 @@ use checking::Checked;
 use checking::check::check;
 use package::Head;
 use package::Reading;
-use package::read::read_package;
+use reading::read::read_package;
 ghost use mathlib.Core.Path.{_≡_};
 ghost use Prim.Native.Nat.{_≤_};
 ghost use lib.ListN.{length};

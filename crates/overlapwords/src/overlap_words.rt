@@ -2,7 +2,7 @@
 
 use crate::OverlapAt;
 use field::arithmetic::neg;
-use package::bounds::is_below;
+use linetests::bounds::is_below;
 use sumlines::SumAt;
 use working::family::add_numbered;
 use working::formula::start;

@@ -1,16 +1,13 @@
--- The laws that this crate's functions are proved by, one for each way through a reader:
+-- The laws that the readers are proved by, one for each way through a definition:
 pub mod CountsLine
 pub mod TermLines
 pub mod TermJudging
-pub mod TermTurns
 pub mod TermSlices
 pub mod ItemStarts
 pub mod SumLines
-pub mod SumTurns
 pub mod Joining
 pub mod FormulaLines
-pub mod FormulaTurns
--- What other crates cite: packages and their texts, the terms of an item, and what a caller of the reader knows.
+-- Packages and their texts, the terms of an item, and what a caller of the reader knows:
 pub mod LineBounds
 pub mod CountsTexts
 pub mod TermTexts

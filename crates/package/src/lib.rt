@@ -1,14 +1,5 @@
-// The package reader: from bytes to a package's counts, its terms in lent slices and its sum lines, or the first refusal of 1 to 7;
-// and the reader of formulas, refusal 16.
-
-pub mod bounds;
-pub mod counts;
-pub mod formula;
-pub mod items;
-pub mod names;
-pub mod read;
-pub mod sum_lines;
-pub mod term_lines;
+// What packages and formulas are, as definitions (specs/) and laws about them (proofs/), with the types that definitions and readers share.
+// The readers are in crates linetests, termreading, sumreading, reading and formulas.
 
 // The value line of block 1: the prime, the number of letters, of relations and of basis polynomials.
 pub struct Head {

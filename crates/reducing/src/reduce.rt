@@ -3,11 +3,11 @@
 use crate::Reduced;
 use accepting::Accepting;
 use accepting::accept::accept;
+use formulas::formula::read_formula;
 use leads::filling::fill;
 use package::FormulaRead;
 use package::Head;
 use package::Limits;
-use package::formula::read_formula;
 use shortform::Ran;
 use shortform::loading::load;
 use shortform::running::run;

@@ -2,7 +2,7 @@
 
 use crate::SumAt;
 use package::SumRead;
-use package::sum_lines::read_sum;
+use sumreading::sum_lines::read_sum;
 use text::bytes::find;
 ghost use mathlib.Core.Path.{_≡_};
 ghost use mathlib.Core.Bool.{true, false};

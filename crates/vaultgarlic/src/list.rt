@@ -4,7 +4,7 @@ use crate::Listed;
 use overlaps::listing::measure;
 use overlaps::listing::write_list;
 use package::Reading;
-use package::read::read_package;
+use reading::read::read_package;
 use sumlines::holding::first_holding;
 use sumlines::leading::leading_words;
 ghost use mathlib.Core.Path.{_≡_};

@@ -11,7 +11,7 @@ use Rattle.accepting.proofs.accept.accept.Statement.{statement}
 use Rattle.accepting.proofs.accept.accept.Tie as tie
 use Rattle.accepting.proofs.accept.accept.Reads as reads
 use Rattle.accepting.proofs.accept.accept.Lts as lts
-use Rattle.package.proofs.read.read_package.Reads as read-package-reads
+use Rattle.reading.proofs.read.read_package.Reads as read-package-reads
 use Rattle.accepting.proofs.accept.check_read.Reads as check-read-reads
 
 slice-aggregate-read-package : tie.Need-slice-aggregate-read-package

@@ -11,7 +11,7 @@ use Rattle.reducing.proofs.reduce.reduce_formula.Statement.{statement}
 use Rattle.reducing.proofs.reduce.reduce_formula.Tie as tie
 use Rattle.reducing.proofs.reduce.reduce_formula.Reads as reads
 use Rattle.reducing.proofs.reduce.reduce_formula.Lts as lts
-use Rattle.package.proofs.formula.read_formula.Reads as read-formula-reads
+use Rattle.formulas.proofs.formula.read_formula.Reads as read-formula-reads
 use Rattle.reducing.proofs.reduce.reduce_read.Reads as reduce-read-reads
 
 slice-aggregate-read-formula : tie.Need-slice-aggregate-read-formula

@@ -1,0 +1,206 @@
+// Block 3: sum lines, with refusals 2, 5 and 6 in each.
+
+use linetests::bounds::coef_fits;
+use linetests::bounds::word_fits;
+use package::Head;
+use package::Limits;
+use package::SumJudged;
+use package::SumRead;
+use package::Sums;
+use text::NumAt;
+use text::WordAt;
+use text::WordLen;
+use text::bytes::find;
+use text::bytes::is_within;
+use text::kind::inner_rank;
+use text::number::inner_number;
+use text::word::inner_word;
+use text::word::last_word;
+ghost use mathlib.Core.Path.{_≡_};
+ghost use Prim.Native.Nat.{ℕ, _+_, _≤_};
+ghost use lib.ListN.{length, drop};
+ghost use Rattle.text.specs.Pieces.{lines, fields};
+ghost use Rattle.package.specs.Sums.{sumForm, sumItemFits, ofs, sumFits, sumFollows, judgeSum, block3};
+ghost use Rattle.package.specs.Held.{seenSum, reachLeft, reachRight, seenSumJudged, seen3};
+
+// A sum line: kind item coef left of right.
+pub fn read_sum(l: &[u8]) -> SumRead
+    ensures { λ r. ⌜ seenSum (now (l .entry)) r ≡ sumForm (fields (now (l .entry))) ⌝ }
+    ensures { λ r. ⌜ (reachLeft r ≤ length (now (l .entry))) × (reachRight r ≤ length (now (l .entry))) ⌝ }
+{
+    let NumAt::Read {
+        value: kind,
+        next: a,
+    } = inner_rank(b"BGO", l, 0)
+    else {
+        return SumRead::Shapeless;
+    };
+    let NumAt::Read {
+        value: item,
+        next: b,
+    } = inner_number(l, a)
+    else {
+        return SumRead::Shapeless;
+    };
+    let NumAt::Read {
+        value: coef,
+        next: c,
+    } = inner_number(l, b)
+    else {
+        return SumRead::Shapeless;
+    };
+    let WordAt::Spans {
+        len: left_len,
+        next: d,
+    } = inner_word(l, c)
+    else {
+        return SumRead::Shapeless;
+    };
+    let NumAt::Read { value: of, next: e } = inner_number(l, d) else {
+        return SumRead::Shapeless;
+    };
+    let WordLen::Letters(right_len) = last_word(l, e) else {
+        return SumRead::Shapeless;
+    };
+    SumRead::Sum {
+        kind: kind,
+        item: item,
+        coef: coef,
+        left: c,
+        left_len: left_len,
+        of: of,
+        right: e,
+        right_len: right_len,
+    }
+}
+
+// Whether the item of a sum line is in bounds.
+fn sum_item_fits(h: Head, kind: u32, item: u32) -> bool
+    ensures { λ r. ⌜ r ≡ sumItemFits h kind item ⌝ }
+{
+    if kind == 1 {
+        return is_within(1, h.basis, item);
+    }
+    if kind == 2 {
+        return is_within(1, h.gens, item);
+    }
+    1 <= item
+}
+
+// How many polynomials `of` may name.
+fn ofs_of(h: Head, kind: u32) -> u32
+    ensures { λ r. ⌜ r ≡ ofs h kind ⌝ }
+{
+    if kind == 1 {
+        return h.gens;
+    }
+    h.basis
+}
+
+// Whether item, coefficient, `of` and words of a sum line are in bounds.
+fn sum_fits(
+    h: Head,
+    m: Limits,
+    kind: u32,
+    item: u32,
+    coef: u32,
+    left: &[u8],
+    of: u32,
+    right: &[u8],
+) -> bool
+    requires { ⌜ h .letters ≤ 26 ⌝ }
+    ensures { λ r. ⌜ r ≡ sumFits h m kind item coef (now (left .entry)) of (now (right .entry)) ⌝ }
+{
+    if !sum_item_fits(h, kind, item) {
+        return false;
+    }
+    if !coef_fits(h.p, coef) {
+        return false;
+    }
+    if !is_within(1, ofs_of(h, kind), of) {
+        return false;
+    }
+    if !word_fits(m.len, h.letters, left) {
+        return false;
+    }
+    word_fits(m.len, h.letters, right)
+}
+
+// Whether a sum line follows the one above in order.
+fn sum_follows(last_kind: u32, last_item: u32, kind: u32, item: u32) -> bool
+    ensures { λ r. ⌜ r ≡ sumFollows «last_kind» «last_item» kind item ⌝ }
+{
+    if kind == last_kind {
+        return last_item <= item;
+    }
+    last_kind < kind
+}
+
+// A line of block 3: refusals 2, 5, 6.
+pub fn judge_sum(h: Head, m: Limits, last_kind: u32, last_item: u32, l: &[u8]) -> SumJudged
+    requires { ⌜ h .letters ≤ 26 ⌝ }
+    ensures { λ r. ⌜ seenSumJudged r ≡ judgeSum h m «last_kind» «last_item» (now (l .entry)) ⌝ }
+{
+    let SumRead::Sum {
+        kind,
+        item,
+        coef,
+        left,
+        left_len,
+        of,
+        right,
+        right_len,
+    } = read_sum(l)
+    else {
+        return SumJudged::Reject(2);
+    };
+    let a = left + left_len;
+    let b = right + right_len;
+    if !sum_fits(h, m, kind, item, coef, &l[left..a], of, &l[right..b]) {
+        return SumJudged::Reject(5);
+    }
+    if !sum_follows(last_kind, last_item, kind, item) {
+        return SumJudged::Reject(6);
+    }
+    SumJudged::Admit {
+        kind: kind,
+        item: item,
+    }
+}
+
+// Block 3, from the line that starts at the place from on, which has the number first.
+pub fn judge_sums(h: Head, m: Limits, s: &[u8], from: usize, first: usize) -> Sums
+    requires { ⌜ h .letters ≤ 26 ⌝ }
+    requires { ⌜ (from ≤ length (now s)) × (first ≤ from + 4) × (length (now s) ≤ 65536) ⌝ }
+    ensures { λ r. ⌜ seen3 r ≡ block3 h m 0 0 first (lines (drop from (now (s .entry)))) ⌝ }
+{
+    let mut kind = 0;
+    let mut item = 0;
+    let mut at = from;
+    let mut line = first;
+    while at < s.len() {
+        let e = find(s, at, 10);
+        if s.len() <= e {
+            return Sums::Fault {
+                number: 2,
+                place: line,
+            };
+        }
+        let j = judge_sum(h, m, kind, item, &s[at..e]);
+        match j {
+            SumJudged::Reject(r) => {
+                return Sums::Fault {
+                    number: r,
+                    place: line,
+                };
+            },
+            SumJudged::Admit { kind: k, item: i } => {
+                kind = k;
+                item = i;
+                at = e + 1;
+                line += 1;
+            },
+        }
+    }
+    Sums::Sound
+}
