@@ -15,6 +15,11 @@ unfolding digit
 fiveDigits bs at =
     digit (getD bs at 0) * 10000 + digit (getD bs (at + 1) 0) * 1000 + digit (getD bs (at + 2) 0) * 100 + digit (getD bs (at + 3) 0) * 10 + digit (getD bs (at + 4) 0)
 
+-- The number that ten bytes say, from a place on.
+unfoldable pub tenDigits : List ℕ → ℕ → ℕ
+unfolding fiveDigits
+tenDigits bs at = fiveDigits bs at * 100000 + fiveDigits bs (at + 5)
+
 -- The lesser of two numbers.
 unfoldable pub least : ℕ → ℕ → ℕ
 least a b = elim (ltb a b) [ true ↦ a | false ↦ b ]

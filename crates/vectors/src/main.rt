@@ -1,6 +1,9 @@
-// Runs the stored cases of its file data/cases and prints each answer. The file holds one case behind the other: a head line of 64 bytes,
-// the package's bytes, and one byte 10. The file 'stdout' has the answers that document 01 gives, written down beforehand.
+// Runs the stored cases of its file data/cases and prints each answer. The file holds one case behind the other: a head line of 81 bytes,
+// the package's bytes, the formula's bytes, and one byte 10. The file 'stdout' has the answers that document 01 gives, written down
+// beforehand.
 
+mod answers;
+mod calls;
 mod head;
 mod run;
 

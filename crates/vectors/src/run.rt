@@ -1,73 +1,32 @@
-// One case: its head line and package are read, its service is called, and the answer is printed.
+// One case: its head line, package and formula are read, its service is called, and the answer is printed.
 
+use crate::answers;
+use crate::calls;
 use crate::head;
 use libc::STDOUT_FILENO;
 use printing::print_into;
-use vaultgarlic::Listed;
-use vaultgarlic::list::vg_list_overlaps;
 ghost use mathlib.Core.Path.{_≡_};
-ghost use Prim.Native.Nat.{_<_, _≤_};
-ghost use lib.ListN.{length, drop};
-ghost use Rattle.vaultgarlic.specs.Services.{listedAs};
-ghost use Rattle.vectors.specs.Cases.{keptByte, countKept};
+ghost use Prim.Native.Nat.{_≤_};
+ghost use lib.ListN.{length};
 
-// 1 for a byte `~`, else 0.
-fn kept_byte(b: u8) -> usize
-    ensures { λ r. ⌜ (r ≡ keptByte b) × (r ≤ 1) ⌝ }
-{
-    if b == b'~' {
-        return 1;
-    }
-    0
-}
-
-// How many bytes from the place from on still hold `~`, which the slice is filled with beforehand.
-fn count_kept(out: &[u8], from: usize) -> usize
-    ensures { λ r. ⌜ r ≡ countKept (drop from (now (out .entry))) ⌝ }
-{
-    let mut i = from;
-    let mut n = 0;
-    while i < out.len() {
-        n += kept_byte(out[i]);
-        i += 1;
-    }
-    n
-}
-
-fn print_number(n: u64) {
-    io::write_all(STDOUT_FILENO, b" ");
-    io::print_decimal(STDOUT_FILENO, n);
-}
-
-// What listing answered: number, place, overlaps, bytes written, and the bytes behind those that were kept; then the bytes written.
-fn print_listed(a: Listed, out: &[u8]) {
-    print_number(a.number);
-    print_number(a.place);
-    print_number(a.overlaps);
-    print_number(a.written);
-    let written = a.written as usize;
-    print_number(count_kept(out, written) as u64);
-    io::write_all(STDOUT_FILENO, b"\n");
-    if written <= out.len() {
-        io::write_all(STDOUT_FILENO, &out[..written]);
-    }
-}
-
-// Listing into the first room bytes of out.
-fn list_into(package: &[u8], out: &mut [u8], room: usize) -> Listed
-    requires { ⌜ room ≤ length (now out) ⌝ }
-    ensures { λ r. ⌜ r ≡ listedAs (now («package» .entry)) room ⌝ }
-{
-    vg_list_overlaps(package, &mut out[..room])
-}
-
-// A case of listing: the answer and the output slice, of which only the first room bytes are lent.
-fn run_listing(package: &[u8], room: usize)
-    requires { ⌜ room ≤ 65536 ⌝ }
+// A case of listing: the answer and the output slice, of which only the first bytes that the head line says are lent.
+fn run_listing(line: &[u8], package: &[u8])
+    requires { ⌜ length (now line) ≡ 81 ⌝ }
 {
     let mut out = [b'~'; 65536];
-    let a = list_into(package, &mut out, room);
-    print_listed(a, &out);
+    let room = head::room(line);
+    let a = calls::list_into(package, &mut out, room);
+    answers::print_listed(a, &out);
+}
+
+// A case of the short form service: the answer and the output slice, as for listing.
+fn run_short_form(line: &[u8], package: &[u8], formula: &[u8])
+    requires { ⌜ length (now line) ≡ 81 ⌝ }
+{
+    let mut out = [b'~'; 65536];
+    let room = head::room(line);
+    let a = calls::shorten_into(package, formula, head::budget(line), &mut out, room);
+    answers::print_shortened(a, &out);
 }
 
 // A case of the program overlap_list: what it prints.
@@ -78,37 +37,47 @@ fn run_program(package: &[u8]) {
     io::write_all(STDOUT_FILENO, &out[..n]);
 }
 
-// A case whose head line and package have been read; its first byte says the service: L for listing, P for the program.
-fn run_case(line: &[u8], input: &[u8], n: usize)
-    requires { ⌜ (length (now line) ≡ 64) × (n ≤ length (now input)) ⌝ }
+// A case that has been read. The head line's first byte says the service: C for the check, L for listing, S for the short form, M for
+// membership, P for the program. The line's first 51 bytes, up to the end of the name, are printed before the answer.
+fn run_case(line: &[u8], package: &[u8], formula: &[u8])
+    requires { ⌜ length (now line) ≡ 81 ⌝ }
 {
     io::write_all(STDOUT_FILENO, &line[..51]);
-    if line[0] == b'L' {
-        run_listing(&input[..n], head::room(line));
-        return;
+    match line[0] {
+        b'C' => answers::print_checked(calls::check_of(package)),
+        b'L' => run_listing(line, package),
+        b'S' => run_short_form(line, package, formula),
+        b'M' => answers::print_membership(calls::membership_of(
+            package,
+            formula,
+            head::budget(line),
+        )),
+        _ => run_program(package),
     }
-    run_program(&input[..n]);
 }
 
-// Reads n bytes and the byte behind them; false where the file ends before.
+// Reads n bytes into the first of input; false where the file ends before.
 fn read_bytes(fd: i32, input: &mut [u8], n: usize) -> bool
-    requires { ⌜ n < length (now input) ⌝ }
+    requires { ⌜ n ≤ length (now input) ⌝ }
 {
-    let end = n + 1;
-    io::read_full(fd, &mut input[..end]) == end
+    io::read_full(fd, &mut input[..n]) == n
 }
 
 // Runs the next case of the file; false where there is none, or one that is cut off.
 pub fn run_next(fd: i32) -> bool {
-    let mut line = [0u8; 64];
-    let mut input = [0u8; 65538];
-    if io::read_full(fd, &mut line) < 64 {
+    let mut line = [0u8; 81];
+    let mut package = [0u8; 65537];
+    let mut formula = [0u8; 100000];
+    if io::read_full(fd, &mut line) < 81 {
         return false;
     }
     let n = head::package_len(&line);
-    let is_read = read_bytes(fd, &mut input, n);
-    if is_read {
-        run_case(&line, &input, n);
+    let m = head::formula_len(&line);
+    let is_package = read_bytes(fd, &mut package, n);
+    let is_formula = read_bytes(fd, &mut formula, m + 1);
+    if is_package && is_formula {
+        run_case(&line, &package[..n], &formula[..m]);
+        return true;
     }
-    is_read
+    false
 }

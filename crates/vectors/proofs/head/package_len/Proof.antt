@@ -12,7 +12,7 @@ lesser-requires : tie.Need-lesser-requires
 lesser-requires c κs = search needs
 
 returns : tie.Need-returns
-returns c = (c .lesser .ensures .0 ∙ ap (λ x. least x 65537) (c .before .five-digits .ensures), c .lesser .ensures .1)
+returns c = (c .lesser .ensures .0 ∙ ap (λ x. least x 65537) (c .before .five-digits .ensures .0), c .lesser .ensures .1)
 
 pub package-len-spec : {M : Type 1} → statement M
 package-len-spec = tie.close (tie.spec five-digits-requires lesser-requires returns)

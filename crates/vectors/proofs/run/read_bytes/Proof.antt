@@ -4,9 +4,6 @@ use borrow.Author.Needs.{needs}
 use Rattle.vectors.proofs.run.read_bytes.Statement.{statement}
 use Rattle.vectors.proofs.run.read_bytes.Tie as tie
 
-add-end : tie.Need-add-end
-add-end c = search needs
-
 slice-relend-prefix-read-full : tie.Need-slice-relend-prefix-read-full
 slice-relend-prefix-read-full c = search needs
 
@@ -26,7 +23,6 @@ pub read-bytes-spec : {M : Type 1} → statement M
 read-bytes-spec =
     tie.close
     (tie.spec
-    add-end
     slice-relend-prefix-read-full
     slice-aggregate-read-full
     read-full-requires

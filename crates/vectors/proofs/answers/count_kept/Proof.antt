@@ -6,8 +6,8 @@ use lib.ListN.{length, drop}
 use Rattle.vectors.specs.Cases.{countKept}
 use Rattle.vectors.proofs.Kept.{kept-next, kept-end}
 use borrow.Author.Needs.{needs}
-use Rattle.vectors.proofs.run.count_kept.Statement.{statement}
-use Rattle.vectors.proofs.run.count_kept.Tie as tie
+use Rattle.vectors.proofs.answers.count_kept.Statement.{statement}
+use Rattle.vectors.proofs.answers.count_kept.Tie as tie
 
 abbrev Inv-loop : tie.InvT-loop
 Inv-loop out from i₀ n₀ i n = (n + countKept (drop i out) ≡ countKept (drop from out)) × (n ≤ i)

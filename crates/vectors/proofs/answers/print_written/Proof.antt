@@ -1,26 +1,17 @@
--- `print_listed`: the list is printed where it lies within the slice.
+-- `print_written`: the bytes are printed where they lie within the slice.
 use Rattle.vectors.proofs.Parts.{part-length}
 use borrow.Author.Needs.{needs}
-use Rattle.vectors.proofs.run.print_listed.Statement.{statement}
-use Rattle.vectors.proofs.run.print_listed.Tie as tie
+use Rattle.vectors.proofs.answers.print_written.Statement.{statement}
+use Rattle.vectors.proofs.answers.print_written.Tie as tie
 
 print-number-requires : tie.Need-print-number-requires
 print-number-requires c κs = search needs
 
-print-number-requires-2 : tie.Need-print-number-requires-2
-print-number-requires-2 c κs = search needs
-
-print-number-requires-3 : tie.Need-print-number-requires-3
-print-number-requires-3 c κs = search needs
-
-print-number-requires-4 : tie.Need-print-number-requires-4
-print-number-requires-4 c κs = search needs
-
 count-kept-requires : tie.Need-count-kept-requires
 count-kept-requires c κs = search needs
 
-print-number-requires-5 : tie.Need-print-number-requires-5
-print-number-requires-5 c κs = search needs
+print-number-requires-2 : tie.Need-print-number-requires-2
+print-number-requires-2 c κs = search needs
 
 slice-aggregate-write-all : tie.Need-slice-aggregate-write-all
 slice-aggregate-write-all c = search needs
@@ -40,16 +31,13 @@ returns c = search needs
 returns-2 : tie.Need-returns-2
 returns-2 c = search needs
 
-pub print-listed-spec : {M : Type 1} → statement M
-print-listed-spec =
+pub print-written-spec : {M : Type 1} → statement M
+print-written-spec =
     tie.close
     (tie.spec
     print-number-requires
-    print-number-requires-2
-    print-number-requires-3
-    print-number-requires-4
     count-kept-requires
-    print-number-requires-5
+    print-number-requires-2
     slice-aggregate-write-all
     write-all-requires
     slice-aggregate-write-all-2

@@ -2,8 +2,8 @@
 use native.Mathlib.Omega.{arith}
 use borrow.Author.Tests.{eq-eqb, ne-eqb}
 use Rattle.vectors.specs.Cases.{keptByte}
-use Rattle.vectors.proofs.run.kept_byte.Statement.{statement}
-use Rattle.vectors.proofs.run.kept_byte.Tie as tie
+use Rattle.vectors.proofs.answers.kept_byte.Statement.{statement}
+use Rattle.vectors.proofs.answers.kept_byte.Tie as tie
 
 returns : tie.Need-returns
 unfolding keptByte

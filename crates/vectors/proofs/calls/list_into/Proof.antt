@@ -3,8 +3,8 @@ use mathlib.Core.Path.{_∙_, ap, sym}
 use Rattle.vectors.proofs.Parts.{part-length}
 use Rattle.vaultgarlic.specs.Services.{listedAs}
 use borrow.Author.Needs.{needs}
-use Rattle.vectors.proofs.run.list_into.Statement.{statement}
-use Rattle.vectors.proofs.run.list_into.Tie as tie
+use Rattle.vectors.proofs.calls.list_into.Statement.{statement}
+use Rattle.vectors.proofs.calls.list_into.Tie as tie
 
 slice-relend-prefix-vg-list-overlaps : tie.Need-slice-relend-prefix-vg-list-overlaps
 slice-relend-prefix-vg-list-overlaps c = search needs

@@ -1,0 +1,18 @@
+"""Writes the stored cases of the program `vectors`: crates/vectors/data/cases, and the answers it must print, crates/vectors/stdout.
+
+Run at the top of the repository: python3 tools/vectors. Every answer stands here as document 01 gives it (rows A1 to A45 of
+docs/DECISIONS.md); none is taken from a run of the program.
+"""
+import basis
+import cases
+import formulas
+import listing
+import order
+import reading
+import real
+import sums
+import terms
+
+for part in (reading, basis, sums, terms, formulas, order, listing, real):
+    part.cases()
+cases.write()

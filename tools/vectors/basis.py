@@ -1,0 +1,51 @@
+"""Refusals 8 and 9: the leading words of the basis. Every service gives them."""
+from cases import accepted, refused, shortened, unread
+from packages import CONSTANT, NOTHING, copies, formula, monomials, own_basis, package, with_line, with_lines
+
+
+def leading_with_one():
+    two = "7 2 1 2"
+    unread("01 row 8: `B 1 2 aa`", with_line(6, "B 1 2 aa"), 8, 1)
+    unread("A20 8 of item 2 before 9 of item 1", package(two, ["B 1 1 aab", "B 2 2 aa"]), 8, 2)
+    unread("A20 no B 3 line", with_line(2, "7 2 1 3"), 8, 3)
+    unread("no B line", package(two, []), 8, 1)
+    unread("B 1 absent, B 2 leads with 2", with_lines({6: [], 7: [], 8: ["B 2 2 ab"]}), 8, 1)
+    unread("leading coef p-1", with_line(8, "B 2 6 ab"), 8, 2)
+    unread("64 basis polynomials, the last leads with 2", copies(32).replace("B 64 1 aeib\n", "B 64 2 aeib\n"), 8, 64)
+    terms = ["G 1 1 ab", "G 1 2 b", "B 1 1 ab", "B 1 2 b"]
+    accepted("a coef of 2 behind the leading one", package("7 2 1 1", terms, ["B 1 1 - 1 -", "G 1 1 - 1 -"]), 0)
+
+
+def inside_another():
+    unread("01 row 9: `B 2 1 aab`", with_line(8, "B 2 1 aab"), 9, 2)
+    unread("A21 equal leading words", with_line(8, "B 2 1 aa"), 9, 1)
+    unread("A21 B 1 `bab`, B 2 `ab`", monomials(["bab", "ab"]), 9, 1)
+    unread("a word inside, in the middle", monomials(["ab", "cc", "cabc"]), 9, 3)
+    unread("A22 B 1 `-`, B 2 `a`", monomials(["-", "a"]), 9, 2)
+    unread("A22 B 1 `a`, B 2 `-`", monomials(["a", "-"]), 9, 1)
+    unread("two items hold others", monomials(["aa", "aab", "baa"]), 9, 2)
+    unread("a word of one letter inside", monomials(["bba", "a"]), 9, 1)
+    unread("24 letters hold one", monomials(["b" * 23 + "a", "a"]), 9, 1)
+    accepted("a leading word inside a lower term", own_basis(7, 3, [["acc", "ab"], ["ab"]]), 0)
+    accepted("letters of a leading word apart", own_basis(7, 3, [["ab"], ["acb"]]), 0)
+
+
+def constant_and_empty():
+    """01's Edges: a nonzero constant relation with basis `1`, where 3 times 5 is 1 modulo 7; and no relations and no basis."""
+    accepted("A22 01 edge: a constant, basis `1`", CONSTANT, 0)
+    shortened("A37 01 edge: `1 ab`, `6 b`, `3 -`", CONSTANT, formula("1 ab", "6 b", "3 -"), 3, formula())
+    refused("A37 budget 2", CONSTANT, 18, 2, "SM", formula("1 ab", "6 b", "3 -"), 2)
+    shortened("01 edge: a constant, the zero formula", CONSTANT, formula(), 0, formula())
+    shortened("01 edge: a constant, `1 -`", CONSTANT, formula("1 -"), 1, formula())
+    shortened("01 edge: a constant, 24 letters", CONSTANT, formula("1 " + "ab" * 12), 1, formula())
+    refused("a constant without a relation", monomials(["-"]), 11, 1)
+    accepted("01 edge: no relations and no basis", NOTHING, 0)
+    for terms in ([], ["1 -"], ["1 ab", "6 ba", "2 b", "3 -"], ["5 " + "a" * 24]):
+        name = "01 edge: nothing, " + (" ".join(terms) or "the zero formula")
+        shortened(name, NOTHING, formula(*terms), 0, formula(*terms))
+
+
+def cases():
+    leading_with_one()
+    inside_another()
+    constant_and_empty()
