@@ -1,0 +1,3 @@
+-- The laws of closing up; and what the function is proved by.
+mod Turns
+pub mod Dropping
