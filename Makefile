@@ -1,24 +1,118 @@
-# make         proves every crate; quick when nothing changed
-# make test    every test, from nothing: the layout of the sources, then the gate `rt ci` (proofs, must-fail edits, programs)
-# make bench   the time of each service, on the packages of examples/ and on one near every bound
-# make clean   removes what was built
+# make               proves every crate; quick when nothing changed
+# make test          every test, from nothing: the layout of the sources, the C side (the targets below), then the gate `rt ci` (proofs,
+#                    must-fail edits, programs)
+# make command       builds the command, target/vaultgarlic
+# make install       installs the command, the library, the header and vaultgarlic.pc under PREFIX (/usr/local), in DESTDIR if that is set
+# make uninstall     removes what install installed
+# make bench         the time of each service, on the packages of examples/ and on one near every bound
+# make soak          the comparison with the oracle on 1,000,000 inputs
+# make clean         removes what was built
+#
+# Parts of `make test`, in its order:
+# make layout        the layout of the sources
+# make library       the static library, proved
+# make client-test   the header as C++, and the example of docs/C.md, compiled and run
+# make command-test  the command, the packages and formulas of examples/, the sessions in the documents
+# make install-test  installs to a temporary folder, builds a client there, uninstalls
+# make guard         the library on buffers of exact length, under the sanitizers
+# make differential  the comparison with the oracle on 50,000 inputs
 
-.PHONY: all test bench clean
+.PHONY: all test command install uninstall bench soak clean layout library client-test command-test install-test guard differential
+.NOTPARALLEL:
+
+PREFIX ?= /usr/local
+BINDIR ?= $(PREFIX)/bin
+LIBDIR ?= $(PREFIX)/lib
+INCLUDEDIR ?= $(PREFIX)/include
+VERSION := $(shell cat VERSION)
+
+CC = gcc
+CFLAGS = -std=c11 -O2 -Wall -Wextra -Wpedantic -Werror
+LIBRARY = target/staticlib/libvaultgarlic.a
+HEADER = include/vaultgarlic.h
+ORACLE = VG_LIB_DIR=../../target/staticlib cargo run --quiet --offline --release --manifest-path tests/oracle/Cargo.toml --bin differential --
 
 all:
 	@rt check
 
-test:
-	@rt fmt --check
+test: layout library client-test command-test install-test guard differential
+	@echo '== rt ci'
 	@rt ci
+
+layout:
+	@echo '== layout of the sources'
+	@rt fmt --check
+
+# The prover knows by the files' contents whether anything is to be done.
+library $(LIBRARY): $(wildcard crates/*/src/*.rt crates/*/specs/*.antt crates/*/proofs/*.antt)
+	@echo '== static library'
+	@mkdir -p target
+	@rt staticlib vaultgarlic >target/staticlib.log 2>&1 || { cat target/staticlib.log; exit 1; }
+	@touch $(LIBRARY)
+
+command: target/vaultgarlic
+
+target/vaultgarlic: $(wildcard tools/vaultgarlic/*.[ch]) $(HEADER) $(LIBRARY) VERSION
+	@$(CC) $(CFLAGS) -DVAULTGARLIC_VERSION='"$(VERSION)"' -Iinclude tools/vaultgarlic/*.c $(LIBRARY) -o $@
+
+client-test: $(LIBRARY)
+	@echo '== C client'
+	@CC='$(CC)' tests/c/client.sh
+
+command-test: target/vaultgarlic
+	@echo '== command'
+	@python3 -B -m unittest discover -q -s tests/command
+
+install-test: target/vaultgarlic
+	@echo '== install'
+	@CC='$(CC)' tests/command/install.sh
+
+guard: $(LIBRARY)
+	@echo '== buffers of exact length'
+	@mkdir -p target/guard
+	@$(CC) -std=c11 -Wall -Wextra -O1 -g -fsanitize=address,undefined -Iinclude tests/c/guard.c $(LIBRARY) -o target/guard/guard
+	@$(ORACLE) --inputs 20000 --write-cases target/guard/cases >target/guard/log || { cat target/guard/log; exit 1; }
+	@target/guard/guard target/guard/cases
+
+differential: $(LIBRARY)
+	@echo '== comparison with the oracle'
+	@$(ORACLE) >target/differential.log || { cat target/differential.log; exit 1; }
+	@tail -n 1 target/differential.log
+
+soak: $(LIBRARY)
+	@echo '== comparison with the oracle, 1,000,000 inputs'
+	@$(ORACLE) --inputs 1000000
+
+define PC
+prefix=$(PREFIX)
+libdir=$(LIBDIR)
+includedir=$(INCLUDEDIR)
+
+Name: vaultgarlic
+Description: Proved checker of noncommutative Groebner basis packages over GF(p)
+Version: $(VERSION)
+Libs: -L$${libdir} -lvaultgarlic
+Cflags: -I$${includedir}
+endef
+export PC
+
+install: target/vaultgarlic
+	@install -d '$(DESTDIR)$(BINDIR)' '$(DESTDIR)$(LIBDIR)/pkgconfig' '$(DESTDIR)$(INCLUDEDIR)'
+	@install -m 755 target/vaultgarlic '$(DESTDIR)$(BINDIR)/vaultgarlic'
+	@install -m 644 $(LIBRARY) '$(DESTDIR)$(LIBDIR)/libvaultgarlic.a'
+	@install -m 644 $(HEADER) '$(DESTDIR)$(INCLUDEDIR)/vaultgarlic.h'
+	@printf '%s\n' "$$PC" >'$(DESTDIR)$(LIBDIR)/pkgconfig/vaultgarlic.pc'
+	@chmod 644 '$(DESTDIR)$(LIBDIR)/pkgconfig/vaultgarlic.pc'
+
+uninstall:
+	@rm -f '$(DESTDIR)$(BINDIR)/vaultgarlic' '$(DESTDIR)$(LIBDIR)/libvaultgarlic.a' \
+	    '$(DESTDIR)$(INCLUDEDIR)/vaultgarlic.h' '$(DESTDIR)$(LIBDIR)/pkgconfig/vaultgarlic.pc'
 
 bench: target/bench
 	@target/bench examples/*.pkg
 
-target/bench: bench/bench.c include/vaultgarlic.h $(wildcard crates/*/src/*.rt)
-	@mkdir -p target
-	@rt staticlib vaultgarlic >target/staticlib.log 2>&1 || { cat target/staticlib.log; exit 1; }
-	@gcc -O2 -Wall -Wextra -Iinclude bench/bench.c -Ltarget/staticlib -lvaultgarlic -o $@
+target/bench: bench/bench.c $(HEADER) $(LIBRARY)
+	@$(CC) -O2 -Wall -Wextra -Iinclude bench/bench.c $(LIBRARY) -o $@
 
 clean:
-	@rm -rf target
+	@rm -rf target tests/oracle/target

@@ -1,0 +1,58 @@
+"""What the four services answer, and where to."""
+from support import Command, E, E_LIST, formula, text, with_line
+
+
+class Answers(Command):
+    def test_check(self):
+        self.answers(b"accepted, 2 overlaps\n", "check", "e.pkg")
+
+    def test_check_counts_in_words(self):
+        one = text([b"p letters gens basis", b"7 1 1 1", b"kind item coef word", b"G 1 1 aa", b"B 1 1 aa",
+                    b"kind item coef left of right", b"B 1 1 - 1 -", b"G 1 1 - 1 -"])
+        none = text([b"p letters gens basis", b"7 1 0 0", b"kind item coef word", b"kind item coef left of right"])
+        self.answers(b"accepted, 1 overlap\n", "check", "-", stdin=one)
+        self.answers(b"accepted, 0 overlaps\n", "check", "-", stdin=none)
+
+    def test_overlaps(self):
+        self.answers(E_LIST, "overlaps", "e.pkg")
+
+    def test_overlaps_judges_no_sum(self):
+        self.answers(E_LIST, "overlaps", "-", stdin=with_line(15))
+
+    def test_overlaps_over_65536_bytes(self):
+        words = [b"a" * i + b"b" + b"a" * (23 - i) for i in range(24)]
+        package = text([b"p letters gens basis", b"7 2 0 24", b"kind item coef word"]
+                       + [b"B %d 1 %s" % (i + 1, word) for i, word in enumerate(words)] + [b"kind item coef left of right"])
+        status, out, told = self.run_command("overlaps", "-", stdin=package)
+        # The size is that of decision A40: `refused 19 250130` where 65,536 bytes are lent.
+        self.assertEqual((status, len(out), told), (0, 250130, b""))
+        self.assertTrue(out.startswith(b"item first second shared word\n1 1 2 1 baaa"))
+
+    def test_short(self):
+        self.put("aba", formula(b"1 aba"))
+        self.answers(b"coef word\n1 bb\n", "short", "e.pkg", "aba")
+        self.answers(b"coef word\n1 bb\n", "short", "--steps", "e.pkg", "aba", told=b"2 steps\n")
+
+    def test_short_of_document_01(self):
+        for before, after, steps in ((b"aaa", b"ba", 1), (b"aba", b"bb", 2), (b"abab", b"bbb", 2), (b"bba", b"bba", 0),
+                                     (b"ab", b"ba", 1)):
+            told = b"%d step%s\n" % (steps, b"" if steps == 1 else b"s")
+            self.answers(formula(b"1 " + after), "short", "e.pkg", "-", "--steps", stdin=formula(b"1 " + before), told=told)
+
+    def test_short_of_zero(self):
+        self.answers(b"coef word\n", "short", "e.pkg", "-", stdin=formula())
+
+    def test_short_of_a_short_form(self):
+        first = self.run_command("short", "e.pkg", "-", stdin=formula(b"1 abab", b"3 aa", b"2 b"))[1]
+        self.answers(first, "short", "e.pkg", "-", stdin=first)
+
+    def test_member(self):
+        self.answers(b"yes\n", "member", "e.pkg", "-", stdin=formula(b"1 aba", b"6 bb"))
+        self.answers(b"no\n", "member", "e.pkg", "-", stdin=formula(b"1 aba"))
+        self.answers(b"yes\n", "member", "e.pkg", "-", stdin=formula())
+        self.answers(b"yes\n", "member", "--steps", "e.pkg", "-", stdin=formula(b"1 aba", b"6 bb"), told=b"2 steps\n")
+
+    def test_package_from_standard_input(self):
+        self.put("aba", formula(b"1 aba"))
+        self.answers(b"coef word\n1 bb\n", "short", "-", "aba", stdin=E)
+        self.answers(b"no\n", "member", "-", "aba", stdin=E)

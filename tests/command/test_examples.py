@@ -1,0 +1,136 @@
+"""The packages and formulas of examples/: every answer stands in a file or table there, taken from elsewhere than a run of the command."""
+import glob
+import os
+import re
+import subprocess
+import sys
+import tempfile
+import unittest
+
+from support import COMMAND, EXAMPLES
+
+# Number and place of each refusal: 01's table 'Numbers and places', where the input is one of that table's. Lines of 07 and 10: three lines
+# above the terms, so the 49th is line 52; 48 + 1 terms, the names line 53, so the eleventh sum line is line 64.
+REFUSED = {
+    "01-too-long": (1, 0),
+    "02-shape": (2, 1),
+    "03-not-prime": (3, 2),
+    "04-counts": (4, 2),
+    "05-bounds": (5, 4),
+    "06-order": (6, 5),
+    "07-too-many-terms": (7, 52),
+    "08-leading": (8, 1),
+    "09-holds-another": (9, 2),
+    "10-sum-too-long": (10, 64),
+    "11-basis-sum": (11, 2),
+    "12-relation-sum": (12, 1),
+    "13-overlap-sum": (13, 1),
+    "14-not-below": (14, 15),
+    "15-no-overlap": (15, 18),
+    "singular-moore-penrose": (11, 1),
+}
+
+# The place as the message has it: behind the file's name, or in the words.
+LINE = r"\A[^\n]*%s\.pkg:(\d+): refused (\d+): "
+ITEM = r"\A[^\n]*%s\.pkg: refused (\d+): [^\n]*?\b(?:[BG]|overlap) (\d+)\b"
+
+
+def run(*arguments):
+    done = subprocess.run([COMMAND] + list(arguments), stdout=subprocess.PIPE, stderr=subprocess.PIPE, check=False, timeout=60)
+    return done.returncode, done.stdout, done.stderr
+
+
+def content(path):
+    with open(path, "rb") as file:
+        return file.read()
+
+
+class Refused(unittest.TestCase):
+    def setUp(self):
+        folder = tempfile.TemporaryDirectory()
+        self.addCleanup(folder.cleanup)
+        self.folder = folder.name
+        self.refused = os.path.join(EXAMPLES, "refused")
+        subprocess.run([sys.executable, "-B", os.path.join(self.refused, "large.py"), self.folder], check=True)
+
+    def place(self, name, number, told):
+        """The place that the message tells."""
+        if number == 1:
+            self.assertRegex(told, r"\A[^\n]*%s\.pkg: refused 1: " % name)
+            return 0
+        if number in (8, 9, 11, 12, 13):
+            found = re.search(ITEM % name, told)
+            self.assertIsNotNone(found, told)
+            self.assertEqual(int(found.group(1)), number)
+            return int(found.group(2))
+        found = re.search(LINE % name, told)
+        self.assertIsNotNone(found, told)
+        self.assertEqual(int(found.group(2)), number)
+        return int(found.group(1))
+
+    def test_number_and_place(self):
+        for name, (number, place) in REFUSED.items():
+            with self.subTest(name):
+                folder = self.folder if name == "01-too-long" else self.refused
+                status, out, told = run("check", os.path.join(folder, name + ".pkg"))
+                self.assertEqual((status, out), (1, b""))
+                self.assertEqual(self.place(name, number, told.decode("ascii")), place)
+
+    def test_every_number_has_one(self):
+        self.assertEqual(sorted({number for number, _ in REFUSED.values()}), list(range(1, 16)))
+
+    def test_every_package_is_in_the_table(self):
+        names = {os.path.basename(path)[:-4] for path in glob.glob(os.path.join(self.refused, "*.pkg"))}
+        self.assertEqual(names | {"01-too-long"}, set(REFUSED))
+
+    def test_large_ones_are_what_the_script_writes(self):
+        for name in ("07-too-many-terms", "10-sum-too-long"):
+            self.assertEqual(content(os.path.join(self.refused, name + ".pkg")), content(os.path.join(self.folder, name + ".pkg")))
+        self.assertEqual(len(content(os.path.join(self.folder, "01-too-long.pkg"))), 65537)
+
+    def test_singular_differs_from_the_right_package_in_one_line(self):
+        wrong = content(os.path.join(self.refused, "singular-moore-penrose.pkg")).split(b"\n")
+        right = content(os.path.join(EXAMPLES, "mp_unique.pkg")).split(b"\n")
+        self.assertEqual(len(wrong), len(right))
+        self.assertEqual([(w, r) for w, r in zip(wrong, right) if w != r], [(b"B 1 65520 - 4 -", b"B 1 65520 - 4 b")])
+
+
+class Accepted(unittest.TestCase):
+    def test_packages(self):
+        packages = sorted(glob.glob(os.path.join(EXAMPLES, "*.pkg")))
+        self.assertEqual(len(packages), 8)
+        for package in packages:
+            with self.subTest(os.path.basename(package)):
+                status, out, told = run("check", package)
+                self.assertEqual((status, told), (0, b""))
+                self.assertRegex(out, rb"\Aaccepted, \d+ overlaps?\n\Z")
+                # The count is the number of lines that the list has below its names line.
+                count = int(re.search(rb"\d+", out).group())
+                self.assertEqual(run("overlaps", package)[1].count(b"\n"), count + 1)
+
+
+class Formulas(unittest.TestCase):
+    """examples/README.md has a row for each formula, with its package and the steps; the short form stands beside the formula."""
+
+    def rows(self):
+        with open(os.path.join(EXAMPLES, "README.md"), encoding="utf-8") as file:
+            return re.findall(r"^\| `(\w+-\d)` \| `(\w+)\.pkg` \| (\d+) \|", file.read(), re.M)
+
+    def test_every_formula_has_its_row(self):
+        for ending in (".formula", ".short"):
+            names = {os.path.basename(path)[: -len(ending)] for path in glob.glob(os.path.join(EXAMPLES, "formulas", "*" + ending))}
+            self.assertEqual(names, {row[0] for row in self.rows()})
+
+    def test_short_forms(self):
+        for name, package, steps in self.rows():
+            with self.subTest(name):
+                package = os.path.join(EXAMPLES, package + ".pkg")
+                formula = os.path.join(EXAMPLES, "formulas", name + ".formula")
+                short = content(os.path.join(EXAMPLES, "formulas", name + ".short"))
+                told = ("%s step%s\n" % (steps, "" if steps == "1" else "s")).encode()
+                self.assertEqual(run("short", "--steps", package, formula), (0, short, told))
+                member = b"yes\n" if short == b"coef word\n" else b"no\n"
+                self.assertEqual(run("member", "--steps", package, formula), (0, member, told))
+                self.assertEqual(run("short", "--budget", steps, package, formula)[0], 0)
+                if steps != "0":
+                    self.assertEqual(run("short", "--budget", str(int(steps) - 1), package, formula)[0], 1)
