@@ -15,7 +15,7 @@
 # make command-test  the command, the packages and formulas of examples/, the sessions in the documents
 # make install-test  installs to a temporary folder, builds a client there, uninstalls
 # make guard         the library on buffers of exact length, under the sanitizers
-# make differential  the comparison with the oracle on 50,000 inputs
+# make differential  the oracle's own tests, and the comparison with it on 50,000 inputs
 
 .PHONY: all test command install uninstall bench soak clean layout library client-test command-test install-test guard differential
 .NOTPARALLEL:
@@ -30,7 +30,8 @@ CC = gcc
 CFLAGS = -std=c11 -O2 -Wall -Wextra -Wpedantic -Werror
 LIBRARY = target/staticlib/libvaultgarlic.a
 HEADER = include/vaultgarlic.h
-ORACLE = VG_LIB_DIR=../../target/staticlib cargo run --quiet --offline --release --manifest-path tests/oracle/Cargo.toml --bin differential --
+CARGO_OPTIONS = --quiet --offline --release --manifest-path tests/oracle/Cargo.toml
+ORACLE = VG_LIB_DIR=../../target/staticlib cargo run $(CARGO_OPTIONS) --bin differential --
 
 all:
 	@rt check
@@ -43,8 +44,8 @@ layout:
 	@echo '== layout of the sources'
 	@rt fmt --check
 
-# The prover knows by the files' contents whether anything is to be done.
-library $(LIBRARY): $(wildcard crates/*/src/*.rt crates/*/specs/*.antt crates/*/proofs/*.antt)
+# `library` always asks rt, which knows by the files' contents whether anything is to be done.
+library $(LIBRARY): crates.txt $(shell find crates -name '*.rt' -o -name '*.antt')
 	@echo '== static library'
 	@mkdir -p target
 	@rt staticlib vaultgarlic >target/staticlib.log 2>&1 || { cat target/staticlib.log; exit 1; }
@@ -75,7 +76,8 @@ guard: $(LIBRARY)
 	@target/guard/guard target/guard/cases
 
 differential: $(LIBRARY)
-	@echo '== comparison with the oracle'
+	@echo '== the oracle, and the comparison with it'
+	@cargo test $(CARGO_OPTIONS) >target/differential.log || { cat target/differential.log; exit 1; }
 	@$(ORACLE) >target/differential.log || { cat target/differential.log; exit 1; }
 	@tail -n 1 target/differential.log
 

@@ -5,7 +5,7 @@ import re
 import subprocess
 import unittest
 
-from support import COMMAND, ROOT
+from support import COMMAND, E_LINES, ROOT
 
 
 def sessions(document):
@@ -41,6 +41,24 @@ class Documents(unittest.TestCase):
             with open(path, encoding="utf-8") as file:
                 count += self.compare(file.read())
         self.assertGreaterEqual(count, 5)
+
+    def test_the_package_explained_in_format(self):
+        with open(os.path.join(ROOT, "docs", "FORMAT.md"), encoding="utf-8") as file:
+            rows = re.findall(r"^\| (\d+) \| `([^`]*)` \| [A-Z.]", file.read(), re.M)
+        self.assertEqual([int(number) for number, _ in rows], list(range(1, len(E_LINES) + 1)))
+        self.assertEqual([line.encode() for _, line in rows], E_LINES)
+
+    def test_the_table_of_packages(self):
+        with open(os.path.join(ROOT, "examples", "README.md"), encoding="utf-8") as file:
+            rows = re.findall(r"^\| `(\w+\.pkg)` \| .* \| (\d+) \| (\d+) \| (\d+) \| (\d+) \| (\d+) \|$", file.read(), re.M)
+        self.assertEqual(len(rows), 8)
+        for name, *counts, overlaps in rows:
+            with self.subTest(name):
+                path = os.path.join(ROOT, "examples", name)
+                with open(path, encoding="ascii") as file:
+                    self.assertEqual(file.read().split("\n")[1].split(" "), counts)
+                done = subprocess.run([COMMAND, "check", path], stdout=subprocess.PIPE, check=True)
+                self.assertEqual(done.stdout.decode("ascii"), "accepted, %s overlaps\n" % overlaps)
 
     def test_help(self):
         done = subprocess.run([COMMAND, "--help"], stdout=subprocess.PIPE, check=True)
