@@ -1,6 +1,6 @@
 # make               proves every crate; quick when nothing changed
-# make test          every test, from nothing: the layout of the sources, the C side (the targets below), then the gate `rt ci` (proofs,
-#                    must-fail edits, programs)
+# make test          every test, from nothing: the layout of the sources, the gate `rt ci` (proofs, must-fail edits, programs), the C side
+#                    (the targets below), and last the gate's verdict again
 # make command       builds the command, target/vaultgarlic
 # make install       installs the command, the library, the header and vaultgarlic.pc under PREFIX (/usr/local), in DESTDIR if that is set
 # make uninstall     removes what install installed
@@ -10,6 +10,7 @@
 #
 # Parts of `make test`, in its order:
 # make layout        the layout of the sources
+# make gate          rt ci, which begins by removing target/
 # make library       the static library, proved
 # make client-test   the header as C++, and the example of docs/C.md, compiled and run
 # make command-test  the command, the packages and formulas of examples/, the sessions in the documents
@@ -17,7 +18,9 @@
 # make guard         the library on buffers of exact length, under the sanitizers
 # make differential  the oracle's own tests, and the comparison with it on 50,000 inputs
 
-.PHONY: all test command install uninstall bench soak clean layout library client-test command-test install-test guard differential
+SHELL = /bin/bash
+
+.PHONY: all test gate command install uninstall bench soak clean layout library client-test command-test install-test guard differential
 .NOTPARALLEL:
 
 PREFIX ?= /usr/local
@@ -36,9 +39,13 @@ ORACLE = VG_LIB_DIR=../../target/staticlib cargo run $(CARGO_OPTIONS) --bin diff
 all:
 	@rt check
 
-test: layout library client-test command-test install-test guard differential
+# The gate goes first: the library is then made of what it proved.
+test: layout gate library client-test command-test install-test guard differential
+	@tail -n 1 target/gate.log
+
+gate:
 	@echo '== rt ci'
-	@rt ci
+	@set -o pipefail; log=$$(mktemp); rt ci 2>&1 | tee "$$log" || { rm -f "$$log"; exit 1; }; mkdir -p target; mv "$$log" target/gate.log
 
 layout:
 	@echo '== layout of the sources'
