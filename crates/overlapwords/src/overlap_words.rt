@@ -3,8 +3,8 @@
 use crate::OverlapAt;
 use field::arithmetic::neg;
 use linetests::bounds::is_below;
+use multiples::family::add_numbered;
 use sumlines::SumAt;
-use working::family::add_numbered;
 use working::formula::start;
 use working::letters::compose;
 ghost use mathlib.Core.Path.{_≡_};

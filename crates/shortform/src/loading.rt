@@ -1,7 +1,7 @@
 // A formula that was read, brought into the working arrays.
 
+use multiples::multiple::add_multiple;
 use working::formula::start;
-use working::multiple::add_multiple;
 ghost use mathlib.Core.Path.{_≡_};
 ghost use Prim.Native.Nat.{_≤_};
 ghost use lib.ListN.{length};

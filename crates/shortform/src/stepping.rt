@@ -1,7 +1,7 @@
 // One step: at a term where a leading word stands, that term's multiple of the polynomial is taken away.
 
 use field::arithmetic::neg;
-use working::family::add_numbered;
+use multiples::family::add_numbered;
 use working::formula::read_term;
 use working::letters::copy_to;
 ghost use mathlib.Core.Path.{_≡_};

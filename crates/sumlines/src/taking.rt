@@ -2,7 +2,7 @@
 
 use crate::SumAt;
 use field::arithmetic::neg;
-use working::family::add_numbered;
+use multiples::family::add_numbered;
 use working::formula::start;
 ghost use mathlib.Core.Path.{_≡_};
 ghost use Prim.Native.Nat.{_+_, _≤_};

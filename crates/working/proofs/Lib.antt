@@ -1,14 +1,9 @@
--- What other crates cite: the terms of a formula by number, and what follows where the arrays hold one; and the laws that this crate's functions are proved by.
+-- What other crates cite: the terms of a formula by number, what follows where the arrays hold one, and what moving entries and storing letters does to them; and the search's law.
 pub mod Terms
 pub mod Places
-mod RotationRight
-mod RotationLeft
-mod Rotations
-mod Parts
-mod Falling
+pub mod RotationRight
+pub mod RotationLeft
+pub mod Parts
+pub mod Falling
 mod Halving
-mod Inserted
-mod NewTerm
-mod SameWord
-mod Adding
 pub mod Numbered

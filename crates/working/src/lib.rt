@@ -2,14 +2,12 @@
 // Coefficients `c` and lengths `l` have one entry for each place, the letters `w` 72, and `o` says which
 // place each term has: its first n entries are the terms, the greatest word first, and the others are the
 // free places. A term is put in or dropped by moving one entry of `o`; letters stay where they are.
+// Here are the parts of that; a term is added in crate termadding, a multiple in crate multiples.
 
 pub mod entries;
-pub mod family;
 pub mod formula;
 pub mod letters;
-pub mod multiple;
 pub mod search;
-pub mod term;
 
 // Where a word belongs among others, and whether it is present there.
 pub struct Position {

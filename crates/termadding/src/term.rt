@@ -1,18 +1,18 @@
 // One term added to the formula.
 
-use crate::entries::rotate_left;
-use crate::entries::rotate_right;
-use crate::letters::copy_to;
-use crate::search::find;
 use field::arithmetic::add;
+use working::entries::rotate_left;
+use working::entries::rotate_right;
+use working::letters::copy_to;
+use working::search::find;
 ghost use mathlib.Core.Path.{_≡_};
 ghost use Prim.Native.Nat.{_+_, _≤_, _<_};
 ghost use lib.ListN.{length};
 ghost use Rattle.field.specs.Field.{Field, fieldOf};
 ghost use Rattle.words.specs.Order.{wordOrder};
 ghost use Rattle.algebra.specs.Written.{insert};
 ghost use Rattle.working.specs.Working.{termAt, formula, Room, Holds, Working};
 ghost use Rattle.working.specs.Change.{Stored, onto, before, single};
 
 // Stores the term x × v at place s.
 pub fn store(x: u32, v: &[u8], c: &mut [u32], l: &mut [usize], w: &mut [u8], s: usize)

@@ -2,13 +2,13 @@
 use Prim.Native.Nat.{_+_}
 use native.Mathlib.Omega.{arith}
 use lib.ListN.{length}
 use Rattle.working.proofs.Numbered.{between-length, part-of, part-given, numbered}
 use borrow.Author.Needs.{needs}
-use Rattle.working.proofs.family.add_numbered.Statement.{statement}
-use Rattle.working.proofs.family.add_numbered.Tie as tie
-use Rattle.working.proofs.family.add_numbered.Reads as reads
-use Rattle.working.proofs.family.add_numbered.Lts as lts
-use Rattle.working.proofs.multiple.add_multiple.Reads as add-multiple-reads
+use Rattle.multiples.proofs.family.add_numbered.Statement.{statement}
+use Rattle.multiples.proofs.family.add_numbered.Tie as tie
+use Rattle.multiples.proofs.family.add_numbered.Reads as reads
+use Rattle.multiples.proofs.family.add_numbered.Lts as lts
+use Rattle.multiples.proofs.multiple.add_multiple.Reads as add-multiple-reads
 
 -- src/family.rt:52:13
 sub-g : tie.Need-sub-g

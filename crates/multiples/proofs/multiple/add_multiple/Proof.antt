@@ -7,12 +7,12 @@ use Rattle.field.specs.Field.{fieldOf}
 use Rattle.words.specs.Order.{wordOrder}
 use Rattle.algebra.specs.Poly.{scale, shift}
 use Rattle.algebra.specs.Written.{plus}
 use Rattle.working.specs.Working.{formula}
 use Rattle.working.specs.Polynomial.{polyAt}
-use Rattle.working.proofs.Adding.{Sizes, Adding, rest, rest-all, rest-next, rest-end, word-short, adding-next, adding-end}
+use Rattle.multiples.proofs.Adding.{Sizes, Adding, rest, rest-all, rest-next, rest-end, word-short, adding-next, adding-end}
 use borrow.Author.Needs.{needs}
-use Rattle.working.proofs.multiple.add_multiple.Statement.{statement}
-use Rattle.working.proofs.multiple.add_multiple.Tie as tie
+use Rattle.multiples.proofs.multiple.add_multiple.Statement.{statement}
+use Rattle.multiples.proofs.multiple.add_multiple.Tie as tie
 
 abbrev Inv-loop : tie.InvT-loop
 Inv-loop p x left gc gs gl bytes right c₀ l₀ w₀ o₀ n buf₀ j₀ k₀ c l w o buf j k =

@@ -1,9 +1,9 @@
 -- `add_onto` adds to the term's coefficient: the sum is stored, or the term's entry moved behind the others.
 use Rattle.working.proofs.Places.{coef-in, coef-small}
-use Rattle.working.proofs.SameWord.{holds-summed, formula-summed, holds-dropped, formula-dropped}
+use Rattle.termadding.proofs.SameWord.{holds-summed, formula-summed, holds-dropped, formula-dropped}
 use borrow.Author.Needs.{needs}
-use Rattle.working.proofs.term.add_onto.Statement.{statement}
-use Rattle.working.proofs.term.add_onto.Tie as tie
+use Rattle.termadding.proofs.term.add_onto.Statement.{statement}
+use Rattle.termadding.proofs.term.add_onto.Tie as tie
 
 mul-s : tie.Need-mul-s
 mul-s c = search needs

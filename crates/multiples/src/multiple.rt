@@ -1,8 +1,8 @@
 // A multiple of a polynomial added to the formula.
 
-use crate::letters::compose;
-use crate::term::add_term;
 use field::arithmetic::mul;
+use termadding::term::add_term;
+use working::letters::compose;
 ghost use mathlib.Core.Path.{_≡_};
 ghost use Prim.Native.Nat.{_+_, _≤_, _<_};
 ghost use lib.ListN.{length};

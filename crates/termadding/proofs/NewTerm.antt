@@ -8,13 +8,13 @@ use lib.ListN.{length, getD, set, length-set}
 use lib.Seq.{length-sets, getD-set-same, getD-set-other}
 use Rattle.words.specs.Word.{Word}
 use Rattle.algebra.specs.Poly.{Term}
 use Rattle.working.specs.Working.{placed, termAt, terms, formula, Holds}
 use Rattle.working.specs.Rotation.{Moved, rotatedRight, rotatedLeft}
 use Rattle.working.specs.Change.{Stored, single, before}
-use Rattle.working.proofs.Rotations.{left-right, right-below}
 use Rattle.working.proofs.Parts.{part-kept, part-new}
 use Rattle.working.proofs.Terms.{terms-same, terms-right}
 use Rattle.working.proofs.Places.{holds-moved}
+use Rattle.termadding.proofs.Rotations.{left-right, right-below}
 
 module _ (c l w o : List ℕ) (n x : ℕ) (v : Word) (c' l' w' : List ℕ) (f : Holds c l w o n) (free : n < length o) (fits : length v ≤ 72)
     (st : Stored c l w (getD o n 0) x v c' l' w') where

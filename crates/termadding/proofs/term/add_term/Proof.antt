@@ -1,11 +1,11 @@
 -- `add_term` inserts the term: onto the one that has its word, nowhere if it is zero, or before those with lower words.
 use mathlib.Core.Path.{refl}
 use native.Mathlib.Omega.{arith}
 use Rattle.working.proofs.Places.{sorted}
-use Rattle.working.proofs.Inserted.{added-onto, added-new, added-zero}
+use Rattle.termadding.proofs.Inserted.{added-onto, added-new, added-zero}
 use borrow.Author.Needs.{needs}
-use Rattle.working.proofs.term.add_term.Statement.{statement}
-use Rattle.working.proofs.term.add_term.Tie as tie
+use Rattle.termadding.proofs.term.add_term.Statement.{statement}
+use Rattle.termadding.proofs.term.add_term.Tie as tie
 
 find-requires : tie.Need-find-requires
 find-requires c κs =

@@ -1,9 +1,9 @@
 -- `put_before` stores the term at a free place, and moves that place's entry.
 use Rattle.working.proofs.Places.{room-in}
-use Rattle.working.proofs.NewTerm.{holds-before, formula-before}
+use Rattle.termadding.proofs.NewTerm.{holds-before, formula-before}
 use borrow.Author.Needs.{needs}
-use Rattle.working.proofs.term.put_before.Statement.{statement}
-use Rattle.working.proofs.term.put_before.Tie as tie
+use Rattle.termadding.proofs.term.put_before.Statement.{statement}
+use Rattle.termadding.proofs.term.put_before.Tie as tie
 
 mul-s : tie.Need-mul-s
 mul-s c = search needs

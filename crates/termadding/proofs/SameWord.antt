@@ -10,12 +10,12 @@ use Rattle.field.specs.Field.{Operations, Field}
 use Rattle.algebra.specs.Poly.{Term, Poly}
 use Rattle.algebra.specs.Written.{put}
 use Rattle.algebra.proofs.Insertion.{put-zero, put-some}
 use Rattle.working.specs.Working.{placed, termAt, terms, formula, Holds}
 use Rattle.working.specs.Rotation.{Moved, rotatedRight, rotatedLeft}
 use Rattle.working.specs.Change.{single, onto}
-use Rattle.working.proofs.Rotations.{right-left, left-below}
 use Rattle.working.proofs.Terms.{terms-next, terms-cut, terms-same, terms-left}
 use Rattle.working.proofs.Places.{coef-in, holds-less, holds-moved}
+use Rattle.termadding.proofs.Rotations.{right-left, left-below}
 
 module _ {K : Operations} (laws : Field K) (c l w o : List ℕ) (n k x y : ℕ) (f : Holds c l w o n) (h : k < n)
     (e : y ≡ K .add x (getD c (getD o k 0) 0)) where

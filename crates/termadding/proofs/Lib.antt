@@ -1,0 +1,4 @@
+mod Rotations
+mod Inserted
+mod NewTerm
+mod SameWord
