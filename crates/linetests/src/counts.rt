@@ -1,13 +1,13 @@
 // The value line of block 1: its shape, then refusal 3 for the prime, then 4 for the other counts.
 
 use field::prime::is_prime;
+use fieldreading::number::inner_number;
+use fieldreading::number::last_number;
 use package::Head;
 use package::HeadRead;
 use text::Num;
 use text::NumAt;
 use text::bytes::is_within;
-use text::number::inner_number;
-use text::number::last_number;
 ghost use mathlib.Core.Path.{_≡_};
 ghost use Rattle.text.specs.Pieces.{fields};
 ghost use Rattle.package.specs.Head.{headForm, primeFits, countsFit};

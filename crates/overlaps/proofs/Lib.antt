@@ -4,10 +4,3 @@ pub mod Listed
 pub mod Certification
 pub mod Positions
 pub mod Searching
-pub mod DigitCount
-pub mod Lines
-pub mod LineStores
-pub mod NamesLine
-pub mod Walking
-pub mod Measuring
-pub mod Writing

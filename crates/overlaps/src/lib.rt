@@ -2,7 +2,6 @@
 // The leading words lie in the package's bytes: word g, from 0, is the lens[g] bytes from starts[g] on.
 
 pub mod finding;
-pub mod listing;
 pub mod shared;
 
 // A place in the order of the overlaps: first and second as places of leading words, from 0, and how many letters they share.

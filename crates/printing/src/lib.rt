@@ -14,7 +14,7 @@ fn put_number_then(out: &mut [u8], at: usize, n: u64, end: u8) -> usize
     ensures { λ r. ⌜ (r ≡ at + length (numberThen n end)) × (r ≤ at + 21) ⌝ }
     ensures { λ _. ⌜ now (out .exit) ≡ sets (now (out .entry)) at (numberThen n end) ⌝ }
 {
-    let e = text::write::put_number(out, at, n);
+    let e = textwriting::write::put_number(out, at, n);
     out[e] = end;
     e + 1
 }
@@ -25,7 +25,7 @@ fn put_refused(out: &mut [u8], number: u64, place: u64) -> usize
     ensures { λ r. ⌜ (r ≡ length (refusedLine number place)) × (r ≤ 50) ⌝ }
     ensures { λ _. ⌜ now (out .exit) ≡ sets (now (out .entry)) 0 (refusedLine number place) ⌝ }
 {
-    let a = text::write::put_bytes(out, 0, b"refused ");
+    let a = textwriting::write::put_bytes(out, 0, b"refused ");
     let b = put_number_then(out, a, number, b' ');
     put_number_then(out, b, place, b'\n')
 }

@@ -1,11 +1,7 @@
-// The short form of a formula: bring it into the working arrays, find the term where a step applies, step,
-// run with a budget, and write the result.
+// The short form of a formula: how its steps are told, and the formula brought into the working arrays. Steps are in crates stepping and
+// running, the text in formwriting.
 
-pub mod finding;
 pub mod loading;
-pub mod running;
-pub mod stepping;
-pub mod writing;
 
 // Where a step applies: the term's number, the leftmost place of a leading word in its word, and the number,
 // from 1, of the polynomial that it leads; or nowhere.

@@ -1,5 +1,9 @@
 // Block 3: sum lines, with refusals 2, 5 and 6 in each.
 
+use fieldreading::kind::inner_rank;
+use fieldreading::number::inner_number;
+use fieldreading::word::inner_word;
+use fieldreading::word::last_word;
 use linetests::bounds::coef_fits;
 use linetests::bounds::word_fits;
 use package::Head;
@@ -12,10 +16,6 @@ use text::WordAt;
 use text::WordLen;
 use text::bytes::find;
 use text::bytes::is_within;
-use text::kind::inner_rank;
-use text::number::inner_number;
-use text::word::inner_word;
-use text::word::last_word;
 ghost use mathlib.Core.Path.{_≡_};
 ghost use Prim.Native.Nat.{ℕ, _+_, _≤_};
 ghost use lib.ListN.{length, drop};

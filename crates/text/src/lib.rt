@@ -1,11 +1,7 @@
-// Texts: lines and fields, decimal numbers and words, read from slices of bytes and written to them.
-// A reader of a field answers what the field says and the place behind it; a writer answers the place behind what it wrote.
+// Texts: what lines, fields, decimal numbers and words are, tests of bytes, and the answers of the readers of fields (crate fieldreading).
+// A reader of a field answers what the field says and the place behind it.
 
 pub mod bytes;
-pub mod kind;
-pub mod number;
-pub mod word;
-pub mod write;
 
 // What a field says as a number: no number, or its value.
 pub enum Num {

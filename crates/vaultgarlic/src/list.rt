@@ -1,8 +1,8 @@
 // vg_list_overlaps: the overlaps of a package's leading words, as the text of document 01.
 
 use crate::Listed;
-use overlaps::listing::measure;
-use overlaps::listing::write_list;
+use listwriting::listing::measure;
+use listwriting::listing::write_list;
 use package::Reading;
 use reading::read::read_package;
 use sumlines::holding::first_holding;

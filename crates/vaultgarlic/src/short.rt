@@ -1,10 +1,10 @@
 // vg_short_form: a formula's short form under a package, written as a formula.
 
 use crate::Shortened;
+use formwriting::writing::text_len;
+use formwriting::writing::write_text;
 use reducing::Reduced;
 use reducing::reduce::reduce;
-use shortform::writing::text_len;
-use shortform::writing::write_text;
 ghost use mathlib.Core.Path.{_≡_};
 ghost use Prim.Native.Nat.{_≤_};
 ghost use lib.ListN.{length};

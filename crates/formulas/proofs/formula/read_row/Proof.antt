@@ -3,7 +3,7 @@ use native.Mathlib.Omega.{arith}
 use borrow.Author.Needs.{needs}
 use Rattle.package.proofs.FormulaLines.{row-no-coef, row-no-word, row-whole}
 use Rattle.package.specs.Held.{seenRow, reachRow}
-use Rattle.text.proofs.FieldReading.{seen-none, seen-some, next-le, seen-no-word, seen-word, len-le}
+use Rattle.fieldreading.proofs.FieldReading.{seen-none, seen-some, next-le, seen-no-word, seen-word, len-le}
 use Rattle.formulas.proofs.formula.read_row.Statement.{statement}
 use Rattle.formulas.proofs.formula.read_row.Tie as tie
 

@@ -3,7 +3,7 @@ use mathlib.Core.Path.{sym, _∙_}
 use borrow.Author.Needs.{needs}
 use Rattle.package.proofs.CountsLine.{head-p, head-letters, head-gens, head-basis, head-whole}
 use Rattle.package.specs.Held.{seenHead}
-use Rattle.text.proofs.FieldReading.{seen-none, seen-some, next-le}
+use Rattle.fieldreading.proofs.FieldReading.{seen-none, seen-some, next-le}
 use Rattle.linetests.proofs.counts.read_head.Statement.{statement}
 use Rattle.linetests.proofs.counts.read_head.Tie as tie
 

@@ -15,7 +15,7 @@ use Rattle.reducing.proofs.reduce.reduce_read.Tie as tie
 use Rattle.reducing.proofs.reduce.reduce_read.Reads as reads
 use Rattle.reducing.proofs.reduce.reduce_read.Lts as lts
 use Rattle.shortform.proofs.loading.load.Reads as load-reads
-use Rattle.shortform.proofs.running.run.Reads as run-reads
+use Rattle.running.proofs.running.run.Reads as run-reads
 use Rattle.reducing.proofs.reduce.index_leads.Reads as index-leads-reads
 
 slice-aggregate-index-leads : tie.Need-slice-aggregate-index-leads

@@ -3,7 +3,7 @@ use native.Mathlib.Omega.{arith}
 use borrow.Author.Needs.{needs}
 use Rattle.package.proofs.SumLines.{sum-kind, sum-item, sum-coef, sum-left, sum-of, sum-right, sum-whole}
 use Rattle.package.specs.Held.{seenSum, reachLeft, reachRight}
-use Rattle.text.proofs.FieldReading.{seen-none-word, seen-some-word, next-word-le, span-le, seen-none, seen-some, next-le, seen-no-word, seen-word, len-le}
+use Rattle.fieldreading.proofs.FieldReading.{seen-none-word, seen-some-word, next-word-le, span-le, seen-none, seen-some, next-le, seen-no-word, seen-word, len-le}
 use Rattle.sumreading.proofs.sum_lines.read_sum.Statement.{statement}
 use Rattle.sumreading.proofs.sum_lines.read_sum.Tie as tie
 

@@ -3,7 +3,7 @@ use native.Mathlib.Omega.{arith}
 use borrow.Author.Needs.{needs}
 use Rattle.package.proofs.TermLines.{form-kind, form-item, form-coef, form-word, form-term}
 use Rattle.package.specs.Held.{seenTerm, reach}
-use Rattle.text.proofs.FieldReading.{seen-none, seen-some, next-le, seen-no-word, seen-word, len-le}
+use Rattle.fieldreading.proofs.FieldReading.{seen-none, seen-some, next-le, seen-no-word, seen-word, len-le}
 use Rattle.termreading.proofs.term_lines.read_term.Statement.{statement}
 use Rattle.termreading.proofs.term_lines.read_term.Tie as tie
 

@@ -12,8 +12,8 @@ use Rattle.vaultgarlic.proofs.short.write_short.Statement.{statement}
 use Rattle.vaultgarlic.proofs.short.write_short.Tie as tie
 use Rattle.vaultgarlic.proofs.short.write_short.Reads as reads
 use Rattle.vaultgarlic.proofs.short.write_short.Lts as lts
-use Rattle.shortform.proofs.writing.text_len.Reads as text-len-reads
-use Rattle.shortform.proofs.writing.write_text.Reads as write-text-reads
+use Rattle.formwriting.proofs.writing.text_len.Reads as text-len-reads
+use Rattle.formwriting.proofs.writing.write_text.Reads as write-text-reads
 use Rattle.vaultgarlic.proofs.short.refusal.Reads as refusal-reads
 
 text-len-requires : tie.Need-text-len-requires

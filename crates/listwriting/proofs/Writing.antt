@@ -1,0 +1,73 @@
+-- The lines of the overlap list written up to a place: storing those that are left gives what storing all gives.
+use mathlib.Core.Path.{_≡_, _∙_}
+use mathlib.Core.List.{List, [], _++_}
+use Prim.Native.Nat.{ℕ, suc, _+_, _≤_}
+use native.Mathlib.Numerals.{add-one}
+use native.Mathlib.Omega.{arith}
+use lib.ListN.{length, length-append}
+use lib.Seq.{sets, length-sets}
+use Rattle.words.specs.Laid.{laidWords, Laid}
+use Rattle.text.proofs.Stores.{sets-append}
+use Rattle.overlaps.specs.declared.Cursor.{Cursor}
+use Rattle.overlaps.specs.Position.{overlapsAt, overlapOf, behind, origin, ordinal, Short}
+use Rattle.overlaps.specs.Listing.{wordOf, lineOf, overlapLines, allLines}
+use Rattle.overlaps.proofs.Positions.{at-origin}
+use Rattle.listwriting.proofs.Walking.{Walking, Step, walking-start}
+
+pub record Writing (starts lens bytes : List ℕ) (n : ℕ) (out₀ : List ℕ) (at : ℕ) (out : List ℕ) (place : ℕ) (from : Cursor) (k : ℕ) : Type 0 where
+  pub walking : Walking starts lens bytes n from
+  pub size : place + length (overlapLines (laidWords starts lens bytes n) k (overlapsAt (laidWords starts lens bytes n) from))
+      ≡ at + length (allLines (laidWords starts lens bytes n))
+  pub stores : sets out place (overlapLines (laidWords starts lens bytes n) k (overlapsAt (laidWords starts lens bytes n) from))
+      ≡ sets out₀ at (allLines (laidWords starts lens bytes n))
+  pub number : k ≤ ordinal from
+  pub fits : at + length (allLines (laidWords starts lens bytes n)) ≤ length out
+  pub same-length : length out ≡ length out₀
+
+module _ (starts lens bytes : List ℕ) (n : ℕ) (out₀ : List ℕ) (at : ℕ) where
+  pub writing-start : Laid starts lens bytes n → n ≤ 64 → Short lens n
+      → at + length (allLines (laidWords starts lens bytes n)) ≤ length out₀
+      → Writing starts lens bytes n out₀ at out₀ at origin 1
+  writing-start h f s l =
+      let o = at-origin (laidWords starts lens bytes n) in
+      record { walking = walking-start starts lens bytes n h f s; size = rw o; stores = rw o; number = omega arith; fits = l; same-length = omega arith }
+
+  module _ (out : List ℕ) (place : ℕ) (from : Cursor) (k : ℕ) (h : Writing starts lens bytes n out₀ at out place from k) where
+    pub number-few : k ≤ 98304
+    number-few = let a = h .number in let b = h .walking .within in omega arith
+
+    pub writing-end : overlapsAt (laidWords starts lens bytes n) from ≡ []
+        → (place ≡ at + length (allLines (laidWords starts lens bytes n)))
+        × (out ≡ sets out₀ at (allLines (laidWords starts lens bytes n)))
+    unfolding overlapLines
+    writing-end e = let p = rw e at (h .size) in (omega arith, rw e at (h .stores))
+
+    module _ (c : Cursor) (s : Step starts lens bytes n from c) where
+      abbrev line : List ℕ
+      line = lineOf k (overlapOf c) (wordOf (laidWords starts lens bytes n) (overlapOf c))
+
+      abbrev others : List ℕ
+      others = overlapLines (laidWords starts lens bytes n) (suc k) (overlapsAt (laidWords starts lens bytes n) (behind c))
+
+      whole : place + length (line ++ others) ≡ at + length (allLines (laidWords starts lens bytes n))
+      unfolding overlapLines
+      whole = rw (s .left) at (h .size)
+
+      pub line-fits : place + length line ≤ length out
+      line-fits = let a = whole in let b = h .fits in omega (arith, length-append line others)
+
+      pub writing-next : (out' : List ℕ) (place' : ℕ) → (place' ≡ place + length line) × (out' ≡ sets out place line)
+          → Writing starts lens bytes n out₀ at out' place' (behind c) (k + 1)
+      unfolding overlapLines
+      writing-next out' place' (p, q) =
+          let a = whole in
+          let b = h .number in
+          let d = s .further in
+          rw (add-one k) (record {
+            walking = s .walking;
+            size = omega (arith, length-append line others);
+            stores = rw (q, p) (sets-append out place line others) ∙ rw (s .left) at (h .stores);
+            number = omega arith;
+            fits = rw (q, length-sets) (h .fits);
+            same-length = rw (q, length-sets) (h .same-length);
+          })

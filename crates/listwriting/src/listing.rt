@@ -1,0 +1,194 @@
+// The overlap list's bytes: how many there are, and the list written.
+
+use overlaps::Cursor;
+use overlaps::Measure;
+use overlaps::Next;
+use overlaps::finding::next_overlap;
+use overlaps::finding::place_behind;
+ghost use mathlib.Core.Path.{_≡_};
+ghost use mathlib.Core.List.{List, [], _∷_, _++_};
+ghost use Prim.Native.Nat.{_+_, _-_, _≤_, _<_};
+ghost use lib.ListN.{length, getD};
+ghost use lib.Seq.{sets};
+ghost use Rattle.words.specs.Laid.{laidWord, laidWords, Laid};
+ghost use Rattle.text.specs.Number.{writeNumber};
+ghost use Rattle.overlaps.specs.Overlaps.{joined, overlaps};
+ghost use Rattle.overlaps.specs.Position.{overlapOf, Short};
+ghost use Rattle.overlaps.specs.Listing.{spaced, wordOf, lineOf, lineLength, allLines, overlapText};
+
+// How many digits a number below 100,000 has.
+fn digits(n: usize) -> usize
+    requires { ⌜ n < 100000 ⌝ }
+    ensures { λ r. ⌜ (r ≡ length (writeNumber n)) × (r ≤ 5) ⌝ }
+{
+    textwriting::write::number_len(n as u64)
+}
+
+// How many bytes the line of an overlap has, number k of the list, with an overlap word of so many letters.
+fn line_len(k: usize, c: Cursor, letters: usize) -> usize
+    requires { ⌜ (k < 100000) × (c .first < 64) × (c .second < 64) × (c .shared ≤ 24) × (letters ≤ 48) ⌝ }
+    ensures { λ r. ⌜ (r ≡ lineLength k (overlapOf c) letters) × (r ≤ 128) ⌝ }
+{
+    let a = digits(k);
+    let b = digits(c.first + 1);
+    let d = digits(c.second + 1);
+    let e = digits(c.shared);
+    a + b + d + e + letters + 5
+}
+
+// How many letters the overlap word has.
+fn letters(lens: &[usize], c: Cursor) -> usize
+    requires { ⌜ (c .first < length (now lens)) × (c .second < length (now lens)) × (c .shared ≤ getD (now lens) (c .second) 0) ⌝ }
+    requires { ⌜ (getD (now lens) (c .first) 0 ≤ 24) × (getD (now lens) (c .second) 0 ≤ 24) ⌝ }
+    ensures { λ r. ⌜ (r ≡ getD (now (lens .entry)) (c .first) 0 + (getD (now (lens .entry)) (c .second) 0 - c .shared)) × (r ≤ 48) ⌝ }
+{
+    let first = c.first;
+    let second = c.second;
+    let rest = lens[second] - c.shared;
+    lens[first] + rest
+}
+
+// The number of overlaps, and of the bytes of their list.
+pub fn measure(starts: &[usize], lens: &[usize], bytes: &[u8], n: usize) -> Measure
+    requires { ⌜ Laid (now starts) (now lens) (now bytes) n ⌝ }
+    requires { ⌜ (n ≤ 64) × Short (now lens) n ⌝ }
+    ensures { λ r. ⌜ r .count ≡ length (overlaps (laidWords (now (starts .entry)) (now (lens .entry)) (now (bytes .entry)) n)) ⌝ }
+    ensures { λ r. ⌜ r .bytes ≡ length (overlapText (laidWords (now (starts .entry)) (now (lens .entry)) (now (bytes .entry)) n)) ⌝ }
+    ensures { λ r. ⌜ (r .count ≤ 98304) × (r .bytes ≤ 16000000) ⌝ }
+{
+    let mut at = Cursor {
+        first: 0,
+        second: 0,
+        shared: 1,
+    };
+    let mut count = 0;
+    let mut total = 30;
+    loop {
+        let next = next_overlap(starts, lens, bytes, n, at);
+        let Next::Overlap(c) = next else {
+            return Measure {
+                count: count,
+                bytes: total,
+            };
+        };
+        count += 1;
+        total += line_len(count, c, letters(lens, c));
+        at = place_behind(c);
+    }
+}
+
+// A number and a space behind it, written to out from the place at on. The answer is the place behind them.
+fn put_spaced(out: &mut [u8], at: usize, n: usize) -> usize
+    requires { ⌜ at + length (spaced n []) ≤ length (now out) ⌝ }
+    ensures { λ r. ⌜ r ≡ at + length (spaced n []) ⌝ }
+    ensures { λ _. ⌜ now (out .exit) ≡ sets (now (out .entry)) at (spaced n []) ⌝ }
+{
+    let e = textwriting::write::put_number(out, at, n as u64);
+    out[e] = b' ';
+    e + 1
+}
+
+// Four numbers, each with a space behind it.
+fn put_numbers(
+    out: &mut [u8],
+    at: usize,
+    item: usize,
+    first: usize,
+    second: usize,
+    shared: usize,
+) -> usize
+    requires { ⌜ at + length (spaced item (spaced first (spaced second (spaced shared [])))) ≤ length (now out) ⌝ }
+    ensures { λ r. ⌜ r ≡ at + length (spaced item (spaced first (spaced second (spaced shared [])))) ⌝ }
+    ensures { λ _. ⌜ now (out .exit) ≡ sets (now (out .entry)) at (spaced item (spaced first (spaced second (spaced shared [])))) ⌝ }
+{
+    let a = put_spaced(out, at, item);
+    let b = put_spaced(out, a, first);
+    let c = put_spaced(out, b, second);
+    put_spaced(out, c, shared)
+}
+
+// An overlap's line, number k of the list, for the words u and v.
+fn put_line(out: &mut [u8], at: usize, k: usize, c: Cursor, u: &[u8], v: &[u8]) -> usize
+    requires { ⌜ (c .first < 64) × (c .second < 64) × (c .shared ≤ length (now v)) × (1 ≤ length (now u)) ⌝ }
+    requires { ⌜ at + length (lineOf k (overlapOf c) (joined (now u) (now v) (c .shared))) ≤ length (now out) ⌝ }
+    ensures { λ r. ⌜ r ≡ at + length (lineOf k (overlapOf c) (joined (now (u .entry)) (now (v .entry)) (c .shared))) ⌝ }
+    ensures { λ _. ⌜ now (out .exit) ≡ sets (now (out .entry)) at (lineOf k (overlapOf c) (joined (now (u .entry)) (now (v .entry)) (c .shared))) ⌝ }
+{
+    let shared = c.shared;
+    let d = put_numbers(out, at, k, c.first + 1, c.second + 1, shared);
+    let e = textwriting::write::put_bytes(out, d, u);
+    let f = textwriting::write::put_bytes(out, e, &v[shared..]);
+    out[f] = 10;
+    f + 1
+}
+
+// The line of an overlap of the leading words, number k of the list.
+fn put_overlap(
+    starts: &[usize],
+    lens: &[usize],
+    bytes: &[u8],
+    n: usize,
+    c: Cursor,
+    k: usize,
+    out: &mut [u8],
+    at: usize,
+) -> usize
+    requires { ⌜ Laid (now starts) (now lens) (now bytes) n ⌝ }
+    requires { ⌜ (n ≤ 64) × (c .first < n) × (c .second < n) × (c .shared < getD (now lens) (c .first) 0) × (c .shared < getD (now lens) (c .second) 0) ⌝ }
+    requires { ⌜ at + length (lineOf k (overlapOf c) (wordOf (laidWords (now starts) (now lens) (now bytes) n) (overlapOf c))) ≤ length (now out) ⌝ }
+    ensures { λ r. ⌜ r ≡ at + length (lineOf k (overlapOf c) (wordOf (laidWords (now (starts .entry)) (now (lens .entry)) (now (bytes .entry)) n) (overlapOf c))) ⌝ }
+    ensures { λ _. ⌜ now (out .exit) ≡ sets (now (out .entry)) at (lineOf k (overlapOf c) (wordOf (laidWords (now (starts .entry)) (now (lens .entry)) (now (bytes .entry)) n) (overlapOf c))) ⌝ }
+{
+    let first = c.first;
+    let second = c.second;
+    let a = starts[first];
+    let b = starts[second];
+    let e = a + lens[first];
+    let f = b + lens[second];
+    put_line(out, at, k, c, &bytes[a..e], &bytes[b..f])
+}
+
+// The lines of the overlap list, written to out from the place at on. The answer is the place behind them.
+fn write_lines(
+    starts: &[usize],
+    lens: &[usize],
+    bytes: &[u8],
+    n: usize,
+    out: &mut [u8],
+    at: usize,
+) -> usize
+    requires { ⌜ Laid (now starts) (now lens) (now bytes) n ⌝ }
+    requires { ⌜ (n ≤ 64) × Short (now lens) n ⌝ }
+    requires { ⌜ at + length (allLines (laidWords (now starts) (now lens) (now bytes) n)) ≤ length (now out) ⌝ }
+    ensures { λ r. ⌜ r ≡ at + length (allLines (laidWords (now (starts .entry)) (now (lens .entry)) (now (bytes .entry)) n)) ⌝ }
+    ensures { λ _. ⌜ now (out .exit) ≡ sets (now (out .entry)) at (allLines (laidWords (now (starts .entry)) (now (lens .entry)) (now (bytes .entry)) n)) ⌝ }
+{
+    let mut place = at;
+    let mut from = Cursor {
+        first: 0,
+        second: 0,
+        shared: 1,
+    };
+    let mut k = 1;
+    loop {
+        let next = next_overlap(starts, lens, bytes, n, from);
+        let Next::Overlap(c) = next else {
+            return place;
+        };
+        place = put_overlap(starts, lens, bytes, n, c, k, out, place);
+        from = place_behind(c);
+        k += 1;
+    }
+}
+
+// The overlap list, written to out from its beginning on. The answer is how many bytes it has.
+pub fn write_list(starts: &[usize], lens: &[usize], bytes: &[u8], n: usize, out: &mut [u8]) -> usize
+    requires { ⌜ Laid (now starts) (now lens) (now bytes) n ⌝ }
+    requires { ⌜ (n ≤ 64) × Short (now lens) n ⌝ }
+    requires { ⌜ length (overlapText (laidWords (now starts) (now lens) (now bytes) n)) ≤ length (now out) ⌝ }
+    ensures { λ r. ⌜ r ≡ length (overlapText (laidWords (now (starts .entry)) (now (lens .entry)) (now (bytes .entry)) n)) ⌝ }
+    ensures { λ _. ⌜ now (out .exit) ≡ sets (now (out .entry)) 0 (overlapText (laidWords (now (starts .entry)) (now (lens .entry)) (now (bytes .entry)) n)) ⌝ }
+{
+    let e = textwriting::write::put_bytes(out, 0, b"item first second shared word\n");
+    write_lines(starts, lens, bytes, n, out, e)
+}

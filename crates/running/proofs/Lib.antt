@@ -1,0 +1,4 @@
+pub mod Progress
+pub mod RunTurns
+pub mod Multiples
+pub mod NotLonger

@@ -1,0 +1,3 @@
+// Steps one after the other, within a budget.
+
+pub mod running;

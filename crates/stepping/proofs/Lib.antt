@@ -1,0 +1,4 @@
+pub mod Targets
+pub mod StepParts
+pub mod WordParts
+pub mod LeadLengths
