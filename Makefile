@@ -4,7 +4,7 @@
 # make command       builds the command, target/vaultgarlic
 # make install       installs the command, the library, the header and vaultgarlic.pc under PREFIX (/usr/local), in DESTDIR if that is set
 # make uninstall     removes what install installed
-# make bench         the time of each service, on the packages of examples/ and on one near every bound
+# make bench         the time of each service, beside two Rust implementations; BENCH='--ms 1000' for more repeats (docs/BENCH.md)
 # make soak          the comparison with the oracle on 1,000,000 inputs
 # make clean         removes what was built
 #
@@ -117,11 +117,8 @@ uninstall:
 	@rm -f '$(DESTDIR)$(BINDIR)/vaultgarlic' '$(DESTDIR)$(LIBDIR)/libvaultgarlic.a' \
 	    '$(DESTDIR)$(INCLUDEDIR)/vaultgarlic.h' '$(DESTDIR)$(LIBDIR)/pkgconfig/vaultgarlic.pc'
 
-bench: target/bench
-	@target/bench examples/*.pkg
-
-target/bench: bench/bench.c $(HEADER) $(LIBRARY)
-	@$(CC) -O2 -Wall -Wextra -Iinclude bench/bench.c $(LIBRARY) -o $@
+bench: $(LIBRARY)
+	@cargo run --release --quiet --offline --target-dir target/benchmark --manifest-path bench/Cargo.toml -- $(BENCH)
 
 clean:
 	@rm -rf target tests/oracle/target

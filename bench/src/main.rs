@@ -1,0 +1,46 @@
+//! The library's times, side by side with two Rust implementations of the same services, in one process.
+//!
+//! `--ms N` gives each row N milliseconds; `--table NAME` prints one table: packages, formulas, bytes or growth.
+
+mod archive;
+mod inputs;
+mod many_overlaps;
+mod measure;
+mod near_bounds;
+mod peers;
+mod random;
+mod tables;
+mod timing;
+
+use inputs::Named;
+use std::env;
+use std::time::Duration;
+use timing::Effort;
+
+fn main() {
+    let arguments: Vec<String> = env::args().skip(1).collect();
+    let option = |name: &str| {
+        let place = arguments.iter().position(|argument| argument == name)?;
+        arguments.get(place + 1)
+    };
+    let ms = option("--ms").map_or(300, |ms| ms.parse().expect("--ms N"));
+    let effort = Effort { row: Duration::from_millis(ms) };
+    let wanted = |table: &str| option("--table").is_none_or(|name| name == table);
+
+    let mut packages = inputs::examples();
+    packages.sort_by_key(|package| package.bytes.len());
+    packages.push(Named { name: "near every bound".into(), bytes: near_bounds::package(31, 65_536) });
+    if wanted("packages") {
+        let many = Named { name: "many overlaps".into(), bytes: many_overlaps::package() };
+        tables::packages(effort, packages.iter().chain([&many]));
+    }
+    if wanted("formulas") {
+        tables::formulas(effort, &packages, inputs::stored_formulas);
+    }
+    if wanted("bytes") {
+        tables::growing_packages(effort);
+    }
+    if wanted("growth") {
+        tables::growing_formulas(effort, &packages);
+    }
+}
