@@ -94,7 +94,7 @@ pub fn formulas(effort: Effort, packages: &[Named], stored: impl Fn(&str) -> Vec
         for formula in stored(name) {
             short_row(&format!("{name} {}", formula.name), bytes, &formula.bytes, effort);
         }
-        for (terms, len) in [(1, 24), (12, 12), (24, 24), (48, 24)] {
+        for (terms, len) in [(1, 24), (12, 12), (48, 8), (24, 24), (48, 24)] {
             let formula = random_formula(1, bytes, terms, len);
             short_row(&format!("{name} random"), bytes, &formula, effort);
         }
