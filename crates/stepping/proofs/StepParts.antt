@@ -16,10 +16,11 @@ use Rattle.algebra.specs.Spot.{spot, found}
 use Rattle.algebra.specs.Steps.{takeAway, lineAt, stepped}
 use Rattle.algebra.proofs.Spots.{spot-found}
 use Rattle.working.specs.Change.{single}
-use Rattle.working.specs.Working.{termAt, formula, Working}
+use Rattle.working.specs.Working.{termAt, wordAt, formula, Working}
 use Rattle.working.specs.Family.{familyAt}
 use Rattle.working.proofs.Places.{coef-small}
 use Rattle.working.proofs.Terms.{terms-at}
+use Rattle.replacing.specs.LeadPlace.{LeadPlace}
 use Rattle.shortform.specs.Basis.{Basis, ShortWords}
 use Rattle.shortform.specs.Search.{termOf}
 use Rattle.stepping.proofs.LeadLengths.{LeadAt, lead-at}
@@ -86,3 +87,13 @@ module _ (p : ℕ) (coefs starts lens bytes firsts : List ℕ) (base count m : �
       let l : take (a - 0) (drop 0 lb) ≡ take i (t .word) = front-is a lb ∙ u ∙ s .left in
       let r : take (b - 0) (drop 0 rb) ≡ drop (i + length (lead (family ps g))) (t .word) = front-is b rb ∙ v ∙ rw z (s .right) in
       rw (l, r, d, ← e)
+
+  -- left × leading word × right, as they are copied, is the term's word
+  pub lead-place : (t : Term) (w : List ℕ) (start end i g n : ℕ) → n ≡ size g → StepAt t w start end i g → spot ps (t .word) ≡ found i g → (a b : ℕ) (lb rb : List ℕ)
+      → take a lb ≡ take (start + i - start) (drop start w) → take b rb ≡ take (end - (start + i + n)) (drop (start + i + n) w) → (l' w' : List ℕ) (k : ℕ) → t .word ≡ wordAt l' w' k
+      → LeadPlace (family ps g) (take (a - 0) (drop 0 lb)) (take (b - 0) (drop 0 rb)) l' w' k
+  lead-place t w start end i g n z s spotted a b lb rb u v l' w' k e =
+      let l : take (a - 0) (drop 0 lb) ≡ take i (t .word) = front-is a lb ∙ u ∙ s .left in
+      let r : take (b - 0) (drop 0 rb) ≡ drop (i + length (lead (family ps g))) (t .word) = front-is b rb ∙ v ∙ rw z (s .right) in
+      let q = spot-found ps (t .word) i g spotted in
+      record { some = q .0; word = rw (l, r) (q .1 ∙ e) }

@@ -1,7 +1,7 @@
 // One step: at a term where a leading word stands, that term's multiple of the polynomial is taken away.
 
 use field::arithmetic::neg;
-use multiples::family::add_numbered;
+use replacing::replace::add_onto_term;
 use working::formula::read_term;
 use working::letters::copy_to;
 ghost use mathlib.Core.Path.{_≡_};
@@ -37,7 +37,7 @@ pub fn lead_len(lens: &[usize], firsts: &[usize], base: usize, of: usize) -> usi
 }
 
 // The step at term k, where the leading word of polynomial `of` stands at place i; the answer is how many terms there then are.
-// Left and right are copied first, since their letters lie where the sum is made.
+// Left and right are copied first, since their letters lie where the sum is made. The polynomial's leading term meets term k.
 pub fn step(
     p: u32,
     coefs: &[u32],
@@ -85,7 +85,7 @@ pub fn step(
     let a = copy_part(lbuf, w, t.start, mid);
     let b = copy_part(rbuf, w, end, t.end);
     let x = neg(p, t.coef);
-    add_numbered(
+    add_onto_term(
         p,
         x,
         &lbuf[0..a],
@@ -104,6 +104,7 @@ pub fn step(
         w,
         o,
         n,
+        k,
         buf,
     )
 }

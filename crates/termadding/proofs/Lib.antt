@@ -1,4 +1,4 @@
 mod Rotations
-mod Inserted
+pub mod Inserted
 mod NewTerm
 mod SameWord

@@ -8,3 +8,4 @@ pub mod WordOrder
 pub mod Standing
 pub mod LaidWords
 pub mod Turns
+pub mod Blocks

@@ -2,5 +2,6 @@ pub mod All
 pub mod Word
 pub mod Order
 pub mod Weighted
+pub mod Block
 pub mod Place
 pub mod Laid

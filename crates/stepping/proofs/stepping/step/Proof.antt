@@ -1,12 +1,14 @@
 -- `step`: the sum with the multiple that is taken away is the step.
 use Prim.Native.Nat.{_-_}
 use mathlib.Core.Path.{_∙_, ap}
+use mathlib.Core.List.{[]}
 use native.Mathlib.Omega.{arith}
 use Rattle.algebra.specs.Poly.{Term}
 use Rattle.working.specs.Working.{termAt, formula}
-use Rattle.working.proofs.Terms.{terms-length}
+use Rattle.working.specs.Change.{single}
+use Rattle.working.proofs.Terms.{terms-length, terms-at}
 use Rattle.shortform.specs.Search.{termOf}
-use Rattle.stepping.proofs.StepParts.{StepAt, coef-below, front-length, step-at, step-sum}
+use Rattle.stepping.proofs.StepParts.{StepAt, coef-below, front-length, step-at, step-sum, lead-place}
 use borrow.Author.Needs.{needs}
 use Rattle.stepping.proofs.stepping.step.Statement.{statement}
 use Rattle.stepping.proofs.stepping.step.Tie as tie
@@ -92,26 +94,26 @@ neg-requires c κs =
     let z = start t in
     (z .pre .0 .0, coef-below (z .args .p) (z .args .c .now) (z .args .l .now) (z .args .w .now) (z .args .o .now) (z .args .n) (z .args .k) _ _ (z .pre .1 .1 .0) (z .pre .1 .1 .1 .1 .0 .0) (t .read-term .ensures .1))
 
-sub-add-numbered : tie.Need-sub-add-numbered
-sub-add-numbered c = search needs
+sub-add-onto-term : tie.Need-sub-add-onto-term
+sub-add-onto-term c = search needs
 
-part-add-numbered-start : tie.Need-part-add-numbered-start
-part-add-numbered-start c = search needs
+part-add-onto-term-start : tie.Need-part-add-onto-term-start
+part-add-onto-term-start c = search needs
 
-part-add-numbered-end : tie.Need-part-add-numbered-end
-part-add-numbered-end c = search needs
+part-add-onto-term-end : tie.Need-part-add-onto-term-end
+part-add-onto-term-end c = search needs
 
-sub-add-numbered-2 : tie.Need-sub-add-numbered-2
-sub-add-numbered-2 c = search needs
+sub-add-onto-term-2 : tie.Need-sub-add-onto-term-2
+sub-add-onto-term-2 c = search needs
 
-part-add-numbered-start-2 : tie.Need-part-add-numbered-start-2
-part-add-numbered-start-2 c = search needs
+part-add-onto-term-start-2 : tie.Need-part-add-onto-term-start-2
+part-add-onto-term-start-2 c = search needs
 
-part-add-numbered-end-2 : tie.Need-part-add-numbered-end-2
-part-add-numbered-end-2 c = search needs
+part-add-onto-term-end-2 : tie.Need-part-add-onto-term-end-2
+part-add-onto-term-end-2 c = search needs
 
-add-numbered-requires : tie.Need-add-numbered-requires
-add-numbered-requires c κs =
+add-onto-term-requires : tie.Need-add-onto-term-requires
+add-onto-term-requires c κs =
     let y = c .before .before .before .before .before .before .before .before .before in
     let r = y .before .before .before in
     let l = r .before .before .before .before .before in
@@ -125,11 +127,17 @@ add-numbered-requires c κs =
     let a = l .copy-part .ensures .0 .0 in
     let u = r .copy-part2 .ensures .0 .0 in
     let x = front-length (l .copy-part .result) (l .copy-part .last .0) in
-    let v = front-length (r .copy-part2 .result) (r .copy-part2 .last .0) in (
+    let v = front-length (r .copy-part2 .result) (r .copy-part2 .last .0) in
+    let inside = z .pre .1 .1 .1 .1 .0 .0 in
+    let word = ap (λ (x : Term). x .word) (terms-at (termAt (z .args .c .now) (z .args .l .now) (z .args .w .now) (z .args .o .now)) (z .args .n) (z .args .k) (single 0 []) inside) in
+    let place = lead-place (z .args .p) (z .args .coefs .now) (z .args .starts .now) (z .args .lens .now) (z .args .bytes .now) (z .args .firsts .now) (z .args .base) (z .args .count) (z .args .m)
+    (termOf (formula (z .args .c .now) (z .args .l .now) (z .args .w .now) (z .args .o .now) (z .args .n)) (z .args .k)) (z .args .w .now)
+    (t .read-term .result .start) (t .read-term .result .end) (z .args .i) (z .args .of) (d .lead-len .result) (d .lead-len .ensures) s (z .pre .1 .1 .1 .1 .1 .1)
+    (l .copy-part .result) (r .copy-part2 .result) (l .copy-part .last .0) (r .copy-part2 .last .0) (l .copy-part .ensures .1) (r .copy-part2 .ensures .1) (z .args .l .now) (z .args .w .now) _ word in (
       (z .pre .0 .0, y .neg .ensures .1, z .pre .0 .1),
       (
         (s .leading .low, s .leading .high, omega arith, omega arith),
-        (z .pre .1 .0 .terms, (z .pre .1 .0 .runs, (z .pre .1 .1 .0, (z .pre .1 .1 .1 .1 .0 .1, z .pre .1 .1 .1 .1 .1 .0 .2)))),
+        (z .pre .1 .0 .terms, (z .pre .1 .0 .runs, (z .pre .1 .1 .0, ((z .pre .1 .1 .1 .1 .0 .1, z .pre .1 .1 .1 .1 .1 .0 .2), (inside, place))))),
       ),
     )
 
@@ -168,7 +176,7 @@ returns c =
     (formula (z .args .c .now) (z .args .l .now) (z .args .w .now) (z .args .o .now) (z .args .n)) (termOf (formula (z .args .c .now) (z .args .l .now) (z .args .w .now) (z .args .o .now) (z .args .n)) (z .args .k)) (z .args .w .now)
     (t .read-term .result .coef) (t .read-term .result .start) (t .read-term .result .end) (z .args .i) (z .args .of) (d .lead-len .result) (d .lead-len .ensures) s (ap (λ (x : Term). x .coef) (t .read-term .ensures .1))
     (y .neg .result) (l .copy-part .result) (r .copy-part2 .result) (l .copy-part .last .0) (r .copy-part2 .last .0) (y .neg .ensures .0) (l .copy-part .ensures .1) (r .copy-part2 .ensures .1) in
-    (a .add-numbered .ensures .0, (a .add-numbered .ensures .1 .0, a .add-numbered .ensures .1 .1 ∙ q))
+    (a .add-onto-term .ensures .0, (a .add-onto-term .ensures .1 .0, a .add-onto-term .ensures .1 .1 ∙ q))
 
 pub step-spec : {M : Type 1} → statement M
 step-spec =
@@ -181,13 +189,13 @@ step-spec =
     copy-part-requires
     copy-part-requires-2
     neg-requires
-    sub-add-numbered
-    part-add-numbered-start
-    part-add-numbered-end
-    sub-add-numbered-2
-    part-add-numbered-start-2
-    part-add-numbered-end-2
-    add-numbered-requires
+    sub-add-onto-term
+    part-add-onto-term-start
+    part-add-onto-term-end
+    sub-add-onto-term-2
+    part-add-onto-term-start-2
+    part-add-onto-term-end-2
+    add-onto-term-requires
     same-length
     same-length-2
     same-length-3

@@ -22,8 +22,11 @@ returns c = sym (order-shorter _ _ (c .if1 .taken))
 returns-2 : tie.Need-returns-2 Inv-loop μ-loop
 returns-2 c = sym (order-longer _ _ (c .if2 .taken))
 
+same-blocks-requires : tie.Need-same-blocks-requires Inv-loop μ-loop
+same-blocks-requires c κs = search needs
+
 loop-holds : tie.Need-loop-holds Inv-loop μ-loop
-loop-holds c = search needs
+loop-holds c = let e = c .same-blocks .ensures in (omega (arith, c .before .if2 .left, c .before .before .if1 .left), e .0, e .1)
 
 shared-slice-read-if3 : tie.Need-shared-slice-read-if3 Inv-loop μ-loop
 shared-slice-read-if3 c = search needs
@@ -44,7 +47,7 @@ returns-3 c =
     let i = l .loop .i in
     sym (order-level _ _ (l .loop .inv .0)
     ∙ sym (l .loop .inv .2)
-    ∙ letter-earlier _ _ i (omega arith) (omega arith) (omega (arith, k .before .shared-slice-known .given i)) (omega (arith, k .shared-slice-known2 .given i)) (c .if4 .taken))
+    ∙ letter-earlier _ _ i (omega arith) (omega arith) (omega (arith, k .before .shared-slice-known3 .given i)) (omega (arith, k .shared-slice-known4 .given i)) (c .if4 .taken))
 
 returns-4 : tie.Need-returns-4 Inv-loop μ-loop
 returns-4 c =
@@ -53,7 +56,7 @@ returns-4 c =
     let i = l .loop .i in
     sym (order-level _ _ (l .loop .inv .0)
     ∙ sym (l .loop .inv .2)
-    ∙ letter-later _ _ i (omega arith) (omega arith) (omega (arith, k .before .shared-slice-known .given i)) (omega (arith, k .shared-slice-known2 .given i)) (omega arith))
+    ∙ letter-later _ _ i (omega arith) (omega arith) (omega (arith, k .before .shared-slice-known3 .given i)) (omega (arith, k .shared-slice-known4 .given i)) (omega arith))
 
 add-i : tie.Need-add-i Inv-loop μ-loop
 add-i c = search needs
@@ -79,6 +82,7 @@ compare-spec =
     μ-loop
     returns
     returns-2
+    same-blocks-requires
     loop-holds
     shared-slice-read-if3
     shared-slice-read-if3-2

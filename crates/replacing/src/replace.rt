@@ -1,0 +1,81 @@
+// A polynomial of the package by its number, added onto the term that has its leading word.
+
+use field::arithmetic::mul;
+use multiples::multiple::add_multiple;
+use termadding::term::add_onto;
+ghost use mathlib.Core.Path.{_≡_};
+ghost use mathlib.Core.Logic.{_≢_};
+ghost use mathlib.Core.List.{[]};
+ghost use Prim.Native.Nat.{_+_, _≤_, _<_};
+ghost use lib.ListN.{length, getD};
+ghost use Rattle.field.specs.Field.{Field, fieldOf};
+ghost use Rattle.words.specs.Order.{wordOrder};
+ghost use Rattle.algebra.specs.Poly.{scale, shift};
+ghost use Rattle.algebra.specs.Ideal.{family};
+ghost use Rattle.algebra.specs.Written.{plus};
+ghost use Rattle.working.specs.Working.{formula, Working};
+ghost use Rattle.working.specs.Family.{familyAt, Terms, Runs};
+ghost use Rattle.replacing.specs.LeadPlace.{LeadPlace};
+
+// Adds x × left × polynomial × right, as `add_numbered` does, where term k has the word left × leading word × right: the leading term is
+// added to that term without a search.
+pub fn add_onto_term(
+    p: u32,
+    x: u32,
+    left: &[u8],
+    of: usize,
+    right: &[u8],
+    coefs: &[u32],
+    starts: &[usize],
+    lens: &[usize],
+    bytes: &[u8],
+    firsts: &[usize],
+    base: usize,
+    count: usize,
+    m: usize,
+    c: &mut [u32],
+    l: &mut [usize],
+    w: &mut [u8],
+    o: &mut [usize],
+    n: usize,
+    k: usize,
+    buf: &mut [u8],
+) -> usize
+    requires { ⌜ (p ≤ 65536) × (x < p) × Field (fieldOf p) ⌝ }
+    requires { ⌜ (1 ≤ of) × (of ≤ count) × (length (now left) ≤ 24) × (length (now right) ≤ 24) ⌝ }
+    requires { ⌜ Terms p (now coefs) (now starts) (now lens) (now bytes) m ⌝ }
+    requires { ⌜ Runs (now firsts) base count m ⌝ }
+    requires { ⌜ Working p (now c) (now l) (now w) (now o) n ⌝ }
+    requires { ⌜ (n + 48 ≤ length (now o)) × (72 ≤ length (now buf)) ⌝ }
+    requires { ⌜ (k < n) × LeadPlace (family (familyAt (now coefs) (now starts) (now lens) (now bytes) (now firsts) base count) of) (now left) (now right) (now l) (now w) (getD (now o) k 0) ⌝ }
+    ensures { λ r. ⌜ r ≤ n + 48 ⌝ }
+    ensures { λ r. ⌜ Working p (now (c .exit)) (now (l .exit)) (now (w .exit)) (now (o .exit)) r ⌝ }
+    ensures { λ r. ⌜
+        formula (now (c .exit)) (now (l .exit)) (now (w .exit)) (now (o .exit)) r
+        ≡ plus (fieldOf p) wordOrder (formula (now (c .entry)) (now (l .entry)) (now (w .entry)) (now (o .entry)) n)
+        (scale (fieldOf p) x (shift (now (left .entry)) (now (right .entry)) (family (familyAt (now (coefs .entry)) (now (starts .entry)) (now (lens .entry)) (now (bytes .entry)) (now (firsts .entry)) base count) of)))
+        ⌝ }
+{
+    let g = of - 1;
+    let a = firsts[base + g];
+    let b = firsts[base + g + 1];
+    let y = mul(p, x, coefs[a]);
+    let r = add_onto(p, y, c, l, w, o, n, k);
+    let e = a + 1;
+    add_multiple(
+        p,
+        x,
+        left,
+        &coefs[e..b],
+        &starts[e..b],
+        &lens[e..b],
+        bytes,
+        right,
+        c,
+        l,
+        w,
+        o,
+        r,
+        buf,
+    )
+}
