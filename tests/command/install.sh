@@ -24,10 +24,10 @@ installed "$to/pre fix" | diff "$to/expected" -
 make --no-print-directory uninstall PREFIX="$to/pre fix"
 test -z "$(installed "$to/pre fix")"
 
-make --no-print-directory install PREFIX=/opt/vg DESTDIR="$to/stage" >>"$to/log"
-installed "$to/stage/opt/vg" | diff "$to/expected" -
-grep -q '^prefix=/opt/vg$' "$to/stage/opt/vg/lib/pkgconfig/vaultgarlic.pc"
-make --no-print-directory uninstall PREFIX=/opt/vg DESTDIR="$to/stage"
+make --no-print-directory install PREFIX=/nowhere DESTDIR="$to/stage" >>"$to/log"
+installed "$to/stage/nowhere" | diff "$to/expected" -
+grep -q '^prefix=/nowhere$' "$to/stage/nowhere/lib/pkgconfig/vaultgarlic.pc"
+make --no-print-directory uninstall PREFIX=/nowhere DESTDIR="$to/stage"
 test -z "$(installed "$to/stage")"
 
 make --no-print-directory install PREFIX="$to/prefix" >>"$to/log"

@@ -25,7 +25,7 @@ ghost use Rattle.reducing.specs.Reduction.{reduction};
 ghost use Rattle.reducing.specs.Slices as lying;
 ghost use Rattle.reducing.specs.Slices.{seenReduced, ShortHeld};
 
-// The table of the leading words of an accepted package.
+// The table of the leading words of an accepted package. None is refused by 8, so all of them are laid.
 fn index_leads(
     package: &[u8],
     coefs: &[u32],
@@ -44,7 +44,7 @@ fn index_leads(
     let mut headlens = [0usize; 64];
     let base = h.gens as usize + 1;
     let count = h.basis as usize;
-    let wrong = leading_words(
+    leading_words(
         h.p,
         coefs,
         starts,
