@@ -60,8 +60,8 @@ module _ (p letters : ℕ) (m : Limits) (s cs os ls : List ℕ) (n : ℕ) (seen 
   pub held-short : All (λ t. length (t .word) ≤ m .len) (polyAt (take n cs) (take n os) (take n ls) s)
   held-short = all-map (λ t b. b .1) held-bounded
 
-  -- The slices are well formed where the limits allow no more letters than fit a place.
-  pub held-given : n ≤ length os → n ≤ length ls → Inside s os ls n → m .len ≤ 72 → Given p (take n cs) (take n os) (take n ls) s 0
+  -- The slices are well formed where the limits allow no more than 24 letters.
+  pub held-given : n ≤ length os → n ≤ length ls → Inside s os ls n → m .len ≤ 24 → Given p (take n cs) (take n os) (take n ls) s
   held-given lo ll inside most =
       let kc = length-take-le n cs lc in
       let ko = length-take-le n os lo in

@@ -9,6 +9,7 @@ use sumlines::item_lines::judge_items;
 use summing::SumsAnswer;
 use summing::overlap_sums::judge_overlaps;
 use summing::sums::judge_sums;
+use working::formula::start;
 ghost use mathlib.Core.Path.{_≡_};
 ghost use Prim.Native.Nat.{_+_, _≤_};
 ghost use lib.ListN.{length};
@@ -19,7 +20,7 @@ ghost use Rattle.acceptance.specs.Check.{thenJudge, basisJudged, sumsVerdict};
 ghost use Rattle.sumlines.specs.Heads.{HeadsOf};
 ghost use Rattle.sumlines.specs.Lines.{sumsAt};
 ghost use Rattle.summing.specs.Judged.{Reached};
-ghost use Rattle.sumlines.specs.Room.{Places};
+ghost use Rattle.sumlines.specs.Room.{Places, Ready};
 ghost use Rattle.checking.specs.Answer.{answerOf, lapsVerdict, relationsVerdict, relationsIn, basisIn, PackageLies, SumsStart, HeadRoom};
 
 // 15, then the sums of the overlaps: the lines of kind O stand from the place at on.
@@ -45,7 +46,7 @@ pub fn judge_laps(
     requires { ⌜ PackageLies h (now coefs) (now starts) (now lens) (now bytes) (now firsts) m ⌝ }
     requires { ⌜ HeadsOf (now coefs) (now starts) (now lens) (now bytes) (now firsts) (h .gens + 1) (h .basis) (now heads) (now headlens) ⌝ }
     requires { ⌜ Reached h 3 1 (now bytes) at line ⌝ }
-    requires { ⌜ Places (now c) (now l) (now w) (now o) (now buf) ⌝ }
+    requires { ⌜ Ready (now c) (now l) (now w) (now o) (now buf) ⌝ }
     requires { ⌜ 72 ≤ length (now lap) ⌝ }
     ensures { λ r. ⌜
         r
@@ -117,7 +118,7 @@ pub fn judge_relations(
     requires { ⌜ PackageLies h (now coefs) (now starts) (now lens) (now bytes) (now firsts) m ⌝ }
     requires { ⌜ HeadsOf (now coefs) (now starts) (now lens) (now bytes) (now firsts) (h .gens + 1) (h .basis) (now heads) (now headlens) ⌝ }
     requires { ⌜ Reached h 2 1 (now bytes) at line ⌝ }
-    requires { ⌜ Places (now c) (now l) (now w) (now o) (now buf) ⌝ }
+    requires { ⌜ Ready (now c) (now l) (now w) (now o) (now buf) ⌝ }
     requires { ⌜ 72 ≤ length (now lap) ⌝ }
     ensures { λ r. ⌜
         r
@@ -200,7 +201,7 @@ pub fn judge_package(
     requires { ⌜ PackageLies h (now coefs) (now starts) (now lens) (now bytes) (now firsts) m ⌝ }
     requires { ⌜ HeadsOf (now coefs) (now starts) (now lens) (now bytes) (now firsts) (h .gens + 1) (h .basis) (now heads) (now headlens) ⌝ }
     requires { ⌜ SumsStart h (now bytes) at line ⌝ }
-    requires { ⌜ Places (now c) (now l) (now w) (now o) (now buf) ⌝ }
+    requires { ⌜ Ready (now c) (now l) (now w) (now o) (now buf) ⌝ }
     requires { ⌜ 72 ≤ length (now lap) ⌝ }
     ensures { λ r. ⌜
         r
@@ -260,7 +261,7 @@ pub fn judge_package(
     }
 }
 
-// The check: 8 and 9, then the sums.
+// The check: 8 and 9, then the sums. The places are arranged once, before the sums.
 pub fn check(
     h: Head,
     coefs: &[u32],
@@ -300,6 +301,7 @@ pub fn check(
             place: place,
         };
     }
+    start(o);
     judge_package(
         h,
         heads,

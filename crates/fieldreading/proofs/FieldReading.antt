@@ -1,16 +1,20 @@
 -- Reading a field: one law for each way through a reader, and what the readers' answers say of the fields.
-use mathlib.Core.Path.{_≡_, sym, _∙_}
+use mathlib.Core.Path.{_≡_, refl, sym, ap, _∙_}
 use mathlib.Core.List.{List}
 use Prim.Native.Nat.{ℕ, _+_, _-_, _≤_, _<_}
 use native.Mathlib.Omega.{arith}
-use lib.ListN.{length, take, drop, length-drop}
-use lib.Seq.{take-take, length-take-le}
+use lib.Dec.{lit<}
+use lib.ListN.{length, take, drop}
 use Rattle.text.proofs.Cutting.{cut-more, cut-end}
+use Rattle.text.proofs.FieldTexts.{number-clear, word-clear}
+use Rattle.text.proofs.NumberTexts.{number-is-written}
+use Rattle.text.proofs.PieceTexts.{joined-pieces, pieces-last}
+use Rattle.text.proofs.WordTexts.{word-is-written}
 use Rattle.text.specs.Answers.{seenNum, nextNum, seenWord, lenWord, seenWordAt, nextWord, spanWord}
 use Rattle.text.specs.Field.{Got, none, some, numThen, numLast, GotWord, noneWord, someWord, gotWordOf, wordThen, wordLast}
-use Rattle.text.specs.Number.{number}
-use Rattle.text.specs.Pieces.{pieces, stop, part}
-use Rattle.text.specs.Word.{WordField, noWord, word, wordOf}
+use Rattle.text.specs.Number.{number, writeNumber}
+use Rattle.text.specs.Pieces.{Pieces, final, piece, pieces, joined, stop, part}
+use Rattle.text.specs.Word.{WordField, noWord, word, wordOf, writeWord}
 use Rattle.text.specs.declared.Num.{Num}
 use Rattle.text.specs.declared.Num.the-variants.{Wrong, Value}
 use Rattle.text.specs.declared.NumAt.{NumAt}
@@ -26,34 +30,47 @@ module _ (form : List ℕ → Num) (l : List ℕ) (at e : ℕ) (h : e ≡ at + s
   unfolding numThen
   num-end k = rw (cut-end 32 l at e h k)
 
-  pub num-wrong : (n : Num) → e < length l → n ≡ form (take (e - at) (drop at l)) → n ≡ Wrong → none ≡ numThen form (pieces 32 (drop at l))
+  pub num-value : (v : ℕ) → e < length l → form (take (e - at) (drop at l)) ≡ Value v
+      → some v (pieces 32 (drop (e + 1) l)) ≡ numThen form (pieces 32 (drop at l))
   unfolding numThen
-  num-wrong n k q w = rw (cut-more 32 l at e h k, ← q, w)
+  num-value v k q = rw (cut-more 32 l at e h k, q)
 
-  pub num-value : (n : Num) (v : ℕ) → e < length l → n ≡ form (take (e - at) (drop at l)) → n ≡ Value v → some v
-      (pieces 32 (drop (e + 1) l)) ≡ numThen form (pieces 32 (drop at l))
-  unfolding numThen
-  num-value n v k q w = rw (cut-more 32 l at e h k, ← q, w)
+-- What says a word or a number holds no space, so it is the one field of its bytes.
+word-one-field : (f w : List ℕ) → wordOf f ≡ word w → pieces 32 f ≡ final f
+word-one-field f w h =
+    let a = word-is-written f w h in
+    let b : pieces 32 (writeWord w) ≡ final (writeWord w) = pieces-last 32 (word-clear 32 w (lit< tt) (a .1)) in
+    rw (← a .0) at b
 
--- A word as the last field.
-module _ (l : List ℕ) (at e : ℕ) (h : e ≡ at + stop 32 (drop at l)) where
-  pub last-more : e < length l → noWord ≡ wordLast (pieces 32 (drop at l))
-  unfolding wordLast
-  last-more k = rw (cut-more 32 l at e h k)
+number-one-field : (f : List ℕ) (n : ℕ) → number f ≡ Value n → pieces 32 f ≡ final f
+number-one-field f n h =
+    let a = number-is-written f n h in
+    let b : pieces 32 (writeNumber n) ≡ final (writeNumber n) = pieces-last 32 (number-clear 32 n (lit< tt)) in
+    rw (← a .0) at b
 
-  pub last-end : length l ≤ e → wordOf (drop at l) ≡ wordLast (pieces 32 (drop at l))
-  unfolding wordLast
-  last-end k = rw (cut-end 32 l at e h k)
+-- The only piece of a text is the text.
+final-all : (f g : List ℕ) → pieces 32 f ≡ final g → f ≡ g
+unfolding joined
+final-all f g e = sym (joined-pieces 32 f) ∙ ap (joined 32) e
 
--- A number as the last field.
-module _ (l : List ℕ) (at e : ℕ) (h : e ≡ at + stop 32 (drop at l)) where
-  pub last-num-more : e < length l → Wrong ≡ numLast (pieces 32 (drop at l))
-  unfolding numLast
-  last-num-more k = rw (cut-more 32 l at e h k)
+-- So the last field's word is the word that all the bytes say, and the same for numbers.
+pub word-of-last : (f : List ℕ) → wordOf f ≡ wordLast (pieces 32 f)
+unfolding wordLast
+word-of-last f = go (wordOf f) (pieces 32 f) refl refl
+  where
+    go : (n : WordField) (ps : Pieces) → wordOf f ≡ n → pieces 32 f ≡ ps → n ≡ wordLast ps
+    go n (final g) a b = sym a ∙ ap wordOf (final-all f g b)
+    go noWord (piece g ps) a b = refl
+    go (word w) (piece g ps) a b = absurd (let q = word-one-field f w a in let y : _≡_ {A = ℕ} 0 1 = cc in omega arith)
 
-  pub last-num-end : length l ≤ e → number (drop at l) ≡ numLast (pieces 32 (drop at l))
-  unfolding numLast
-  last-num-end k = rw (cut-end 32 l at e h k)
+pub number-of-last : (f : List ℕ) → number f ≡ numLast (pieces 32 f)
+unfolding numLast
+number-of-last f = go (number f) (pieces 32 f) refl refl
+  where
+    go : (n : Num) (ps : Pieces) → number f ≡ n → pieces 32 f ≡ ps → n ≡ numLast ps
+    go n (final g) a b = sym a ∙ ap number (final-all f g b)
+    go Wrong (piece g ps) a b = refl
+    go (Value v) (piece g ps) a b = absurd (let q = number-one-field f v a in let y : _≡_ {A = ℕ} 0 1 = cc in omega arith)
 
 -- A word with another field behind it.
 module _ (l : List ℕ) (at e : ℕ) (h : e ≡ at + stop 32 (drop at l)) where
@@ -61,21 +78,10 @@ module _ (l : List ℕ) (at e : ℕ) (h : e ≡ at + stop 32 (drop at l)) where
   unfolding wordThen
   word-end k = rw (cut-end 32 l at e h k)
 
-  pub word-wrong : e < length l → wordOf (take (e - at) (drop at l)) ≡ noWord → noneWord ≡ wordThen (pieces 32 (drop at l))
+  pub word-some : (w : List ℕ) → e < length l → wordOf (take (e - at) (drop at l)) ≡ word w
+      → someWord w (pieces 32 (drop (e + 1) l)) ≡ wordThen (pieces 32 (drop at l))
   unfolding wordThen gotWordOf
-  word-wrong k w = rw (cut-more 32 l at e h k, w)
-
-  pub word-some : (n : ℕ) → e < length l → n ≤ e - at → wordOf (take (e - at) (drop at l)) ≡ word (take n (take (e - at) (drop at l)))
-      → someWord (part l at n) (pieces 32 (drop (e + 1) l)) ≡ wordThen (pieces 32 (drop at l))
-  unfolding wordThen gotWordOf
-  word-some n k b w = rw (cut-more 32 l at e h k, w, take-take n (e - at) (drop at l) b)
-
-pub word-length : (l : List ℕ) (at e : ℕ) (r : WordLen) (n : ℕ) → at ≤ e → e ≤ length l → r ≡ Letters n → lenWord r ≤ length (take (e - at) (drop at l)) → n ≤ e - at
-unfolding lenWord
-word-length l at e r n h z q b =
-    let b′ : n ≤ length (take (e - at) (drop at l)) = rw q at b in
-    let y : e - at ≤ length (drop at l) = rw (length-drop at l) (omega arith) in
-    omega (arith, length-take-le (e - at) (drop at l) y)
+  word-some w k q = rw (cut-more 32 l at e h k, q)
 
 module _ (l : List ℕ) (at : ℕ) (r : WordAt) (x : GotWord) where
   pub seen-none-word : r ≡ NoWordAt → seenWordAt l at r ≡ x → x ≡ noneWord

@@ -1,1 +1,2 @@
 pub mod FieldReading
+pub mod Fronts

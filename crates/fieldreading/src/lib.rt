@@ -2,4 +2,5 @@
 
 pub mod kind;
 pub mod number;
+pub mod space;
 pub mod word;

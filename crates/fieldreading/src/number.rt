@@ -1,13 +1,13 @@
 // Numbers: decimal, one to five digits, no leading zero except `0` itself.
 // `inner_number` wants another field behind its own, `last_number` wants none.
 
+use crate::space::is_space_at;
 use text::Num;
 use text::NumAt;
-use text::bytes::find;
 use text::bytes::wide;
 ghost use mathlib.Core.Path.{_≡_};
-ghost use Prim.Native.Nat.{ℕ, _+_, _≤_};
-ghost use lib.ListN.{length, drop};
+ghost use Prim.Native.Nat.{ℕ, _+_, _≤_, _<_};
+ghost use lib.ListN.{length, getD, drop};
 ghost use Rattle.text.specs.Pieces.{fields};
 ghost use Rattle.text.specs.Number.{digits, number};
 ghost use Rattle.text.specs.Field.{numThen, numLast};
@@ -53,34 +53,66 @@ pub fn read_number(f: &[u8]) -> Num
     read_digits(f)
 }
 
+// The digits of the field that starts at the place at, another field behind it: at most five, and the first of them is not `0`.
+fn inner_digits(l: &[u8], at: usize) -> NumAt
+    requires { ⌜ at < length (now l) ⌝ }
+    requires { ⌜ (getD (now l) at 0 ≡ 48 → ⊥) ⌝ }
+    ensures { λ r. ⌜ seenNum (now (l .entry)) r ≡ numThen number (fields (drop at (now (l .entry)))) ⌝ }
+    ensures { λ r. ⌜ nextNum r ≤ length (now (l .entry)) ⌝ }
+{
+    let mut n: u32 = 0;
+    let mut i = at;
+    while i < l.len() {
+        let d = wide(l[i]);
+        if d == 32 {
+            if i == at {
+                return NumAt::Unread;
+            }
+            return NumAt::Read {
+                value: n,
+                next: i + 1,
+            };
+        }
+        if d < 48 {
+            return NumAt::Unread;
+        }
+        if 57 < d {
+            return NumAt::Unread;
+        }
+        if 5 <= i - at {
+            return NumAt::Unread;
+        }
+        n = n * 10 + (d - 48);
+        i += 1;
+    }
+    NumAt::Unread
+}
+
 // The number in the field that starts at the place at, another field behind it.
 pub fn inner_number(l: &[u8], at: usize) -> NumAt
     requires { ⌜ at ≤ length (now l) ⌝ }
     ensures { λ r. ⌜ seenNum (now (l .entry)) r ≡ numThen number (fields (drop at (now (l .entry)))) ⌝ }
     ensures { λ r. ⌜ nextNum r ≤ length (now (l .entry)) ⌝ }
 {
-    let e = find(l, at, b' ');
-    if l.len() <= e {
+    if l.len() <= at {
         return NumAt::Unread;
     }
-    let n = read_number(&l[at..e]);
-    match n {
-        Num::Wrong => NumAt::Unread,
-        Num::Value(v) => NumAt::Read {
-            value: v,
-            next: e + 1,
-        },
+    if l[at] != 48 {
+        return inner_digits(l, at);
     }
+    if is_space_at(l, at + 1) {
+        return NumAt::Read {
+            value: 0,
+            next: at + 2,
+        };
+    }
+    NumAt::Unread
 }
 
-// The number in the last field, which starts at the place at.
+// The number in the last field, which starts at the place at: bytes with a space among them say no number.
 pub fn last_number(l: &[u8], at: usize) -> Num
     requires { ⌜ at ≤ length (now l) ⌝ }
     ensures { λ r. ⌜ r ≡ numLast (fields (drop at (now (l .entry)))) ⌝ }
 {
-    let e = find(l, at, b' ');
-    if e < l.len() {
-        return Num::Wrong;
-    }
     read_number(&l[at..])
 }

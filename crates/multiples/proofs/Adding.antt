@@ -17,7 +17,6 @@ use Rattle.working.specs.Working.{terms, formula, Holds, Working}
 use Rattle.working.specs.Polynomial.{polyTerm, polyAt}
 use Rattle.working.specs.Change.{single}
 use Rattle.working.proofs.Terms.{terms-next, terms-end}
-use Rattle.working.proofs.Parts.{part-length}
 
 -- the slices are as long as they were
 pub record Sizes (c₀ l₀ w₀ o₀ b₀ c l w o b : List ℕ) : Type 0 where
@@ -63,15 +62,11 @@ module _ (K : Operations) (x : ℕ) (left right : Word) (gc gs gl bytes : List �
   -- the first of them, with the coefficient y and the word in the first e letters of b
   pub rest-next : (j y e : ℕ) (b : List ℕ) → j < length gc → y ≡ K .mul x (getD gc j 0)
       → take e b ≡ around left right (laidWord gs gl bytes j)
-      → rest j ≡ single y (take (e - 0) (drop 0 b)) ∷ rest (j + 1)
+      → rest j ≡ single y (take e b) ∷ rest (j + 1)
   rest-next j y e b h d k =
-      let s : e - 0 ≡ e = omega arith in
       ap (λ (g : Poly). scale K x (shift left right g)) (terms-next (polyTerm gc gs gl bytes) j (length gc) h)
       ∙ multiple-next (polyTerm gc gs gl bytes j) (terms (polyTerm gc gs gl bytes) (j + 1) (length gc - (j + 1)))
-      ∙ rw (s, d, k)
-
-pub word-short : (e : ℕ) (b : List ℕ) → e ≤ 72 → e ≤ length b → length (take (e - 0) (drop 0 b)) ≤ 72
-word-short e b h q = let s : e - 0 ≡ e = omega arith in let k = part-length 0 e b (omega arith) in rw s (omega arith)
+      ∙ rw (d, k)
 
 module _ (p : ℕ) (c l w o : List ℕ) (k : ℕ) (whole : Poly) where
   -- one term was inserted

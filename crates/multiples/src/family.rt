@@ -3,7 +3,7 @@
 use crate::multiple::add_multiple;
 ghost use mathlib.Core.Path.{_≡_};
 ghost use Prim.Native.Nat.{_+_, _≤_, _<_};
-ghost use lib.ListN.{length};
+ghost use lib.ListN.{length, take, drop};
 ghost use Rattle.field.specs.Field.{Field, fieldOf};
 ghost use Rattle.words.specs.Order.{wordOrder};
 ghost use Rattle.algebra.specs.Poly.{scale, shift};
@@ -13,13 +13,17 @@ ghost use Rattle.working.specs.Working.{formula, Working};
 ghost use Rattle.working.specs.Family.{familyAt, Terms, Runs};
 
 // Adds x × left × polynomial × right, where the polynomial is number `of`, counted from 1, of count polynomials that lie one after the other:
-// number 1 starts where entry base of firsts says, and m terms are well formed.
+// number 1 starts where entry base of firsts says, and m terms are well formed. Left and right are given as in `add_multiple`.
 pub fn add_numbered(
     p: u32,
     x: u32,
     left: &[u8],
+    lfrom: usize,
+    a: usize,
     of: usize,
     right: &[u8],
+    rfrom: usize,
+    b: usize,
     coefs: &[u32],
     starts: &[usize],
     lens: &[usize],
@@ -36,7 +40,9 @@ pub fn add_numbered(
     buf: &mut [u8],
 ) -> usize
     requires { ⌜ (p ≤ 65536) × (x < p) × Field (fieldOf p) ⌝ }
-    requires { ⌜ (1 ≤ of) × (of ≤ count) × (length (now left) ≤ 24) × (length (now right) ≤ 24) ⌝ }
+    requires { ⌜ (1 ≤ of) × (of ≤ count) ⌝ }
+    requires { ⌜ (a ≤ 24) × (lfrom + a ≤ length (now left)) ⌝ }
+    requires { ⌜ (b ≤ 24) × (rfrom + b ≤ length (now right)) ⌝ }
     requires { ⌜ Terms p (now coefs) (now starts) (now lens) (now bytes) m ⌝ }
     requires { ⌜ Runs (now firsts) base count m ⌝ }
     requires { ⌜ Working p (now c) (now l) (now w) (now o) n ⌝ }
@@ -46,21 +52,25 @@ pub fn add_numbered(
     ensures { λ r. ⌜
         formula (now (c .exit)) (now (l .exit)) (now (w .exit)) (now (o .exit)) r
         ≡ plus (fieldOf p) wordOrder (formula (now (c .entry)) (now (l .entry)) (now (w .entry)) (now (o .entry)) n)
-        (scale (fieldOf p) x (shift (now (left .entry)) (now (right .entry)) (family (familyAt (now (coefs .entry)) (now (starts .entry)) (now (lens .entry)) (now (bytes .entry)) (now (firsts .entry)) base count) of)))
+        (scale (fieldOf p) x (shift (take a (drop lfrom (now (left .entry)))) (take b (drop rfrom (now (right .entry)))) (family (familyAt (now (coefs .entry)) (now (starts .entry)) (now (lens .entry)) (now (bytes .entry)) (now (firsts .entry)) base count) of)))
         ⌝ }
 {
     let g = of - 1;
-    let a = firsts[base + g];
-    let b = firsts[base + g + 1];
+    let first = firsts[base + g];
+    let next = firsts[base + g + 1];
     add_multiple(
         p,
         x,
         left,
-        &coefs[a..b],
-        &starts[a..b],
-        &lens[a..b],
+        lfrom,
+        a,
+        &coefs[first..next],
+        &starts[first..next],
+        &lens[first..next],
         bytes,
         right,
+        rfrom,
+        b,
         c,
         l,
         w,

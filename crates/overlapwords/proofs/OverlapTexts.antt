@@ -38,48 +38,36 @@ drop-take (suc k) zero (x ∷ xs) = let e : 0 - suc k ≡ 0 = omega arith in rw 
 drop-take (suc k) (suc n) [] = sym (take-nothing (suc n - suc k))
 drop-take (suc k) (suc n) (x ∷ xs) = let e : suc n - suc k ≡ n - k = omega arith in rw e (drop-take k n xs)
 
--- a part as the code lends it
-whole-part : (bytes : List ℕ) (a n : ℕ) → take (a + n - a) (drop a bytes) ≡ take n (drop a bytes)
-whole-part bytes a n = let e : a + n - a ≡ n = omega arith in rw e
-
 -- the rest of a word behind k letters
 rest-part : (bytes : List ℕ) (s n k : ℕ) → take (n - k) (drop (s + k) bytes) ≡ drop k (take n (drop s bytes))
 rest-part bytes s n k = sym (drop-take k n (drop s bytes) ∙ ap (λ (l : List ℕ). take (n - k) l) (drop-drop k s bytes))
 
-pub rest-lent : (bytes : List ℕ) (s n k : ℕ) → take (s + n - (s + k)) (drop (s + k) bytes) ≡ drop k (take n (drop s bytes))
-rest-lent bytes s n k = let e : s + n - (s + k) ≡ n - k = omega arith in rw e (rest-part bytes s n k)
-
 -- a word without its last k letters
-pub front-lent : (bytes : List ℕ) (s n k : ℕ) → s + n ≤ length bytes
-    → take (s + n - k - s) (drop s bytes) ≡ take (length (take n (drop s bytes)) - k) (take n (drop s bytes))
-front-lent bytes s n k h =
+front-part : (bytes : List ℕ) (s n k : ℕ) → s + n ≤ length bytes
+    → take (n - k) (drop s bytes) ≡ take (length (take n (drop s bytes)) - k) (take n (drop s bytes))
+front-part bytes s n k h =
     let e : length (take n (drop s bytes)) ≡ n = simp (length-take, length-drop) (omega arith) in
-    let d : s + n - k - s ≡ n - k = omega arith in
-    rw (e, d) (sym (take-take (n - k) n (drop s bytes) (omega arith)))
-
-pub part-most : (xs : List ℕ) (a n : ℕ) → length (take (a + n - a) (drop a xs)) ≤ n
-part-most xs a n = let e = length-take (a + n - a) (drop a xs) in omega arith
+    rw e (sym (take-take (n - k) n (drop s bytes) (omega arith)))
 
 -- the overlap word
 pub overlap-text : (starts lens bytes : List ℕ) (f : OverlapAt)
-    → around (take (getD starts (f .first) 0 + getD lens (f .first) 0 - getD starts (f .first) 0) (drop (getD starts (f .first) 0) bytes)) []
+    → around (take (getD lens (f .first) 0) (drop (getD starts (f .first) 0) bytes)) []
     (take (getD lens (f .second) 0 - f .shared) (drop (getD starts (f .second) 0 + f .shared) bytes))
     ≡ laidOverlap starts lens bytes f
 overlap-text starts lens bytes f =
-    ap₂ (λ (u v : List ℕ). u ++ v) (whole-part bytes (getD starts (f .first) 0) (getD lens (f .first) 0))
+    ap (λ (v : List ℕ). take (getD lens (f .first) 0) (drop (getD starts (f .first) 0) bytes) ++ v)
     (append-nil (take (getD lens (f .second) 0 - f .shared) (drop (getD starts (f .second) 0 + f .shared) bytes))
     ∙ rest-part bytes (getD starts (f .second) 0) (getD lens (f .second) 0) (f .shared))
 
 -- the two words of refusal 14
 pub under-text : (starts lens bytes : List ℕ) (s : SumAt) (x : Bool) (i k : ℕ) (u v : List ℕ)
-    → take i u ≡ around (take (s .left + s .leftlen - s .left) (drop (s .left) bytes)) (take (s .right + s .rightlen - s .right) (drop (s .right) bytes)) (laidWord starts lens bytes (s .of - 1))
+    → take i u ≡ around (take (s .leftlen) (drop (s .left) bytes)) (take (s .rightlen) (drop (s .right) bytes)) (laidWord starts lens bytes (s .of - 1))
     → x ≡ isBelow (take (i - 0) (drop 0 u)) (take (k - 0) (drop 0 v))
     → x ≡ isBelow (laidTop starts lens bytes s) (take k v)
 under-text starts lens bytes s x i k u v e h =
     let a : i - 0 ≡ i = omega arith in
     let b : k - 0 ≡ k = omega arith in
-    h ∙ rw (a, b) (ap (λ (t : List ℕ). isBelow t (take k v))
-    (e ∙ rw (whole-part bytes (s .left) (s .leftlen), whole-part bytes (s .right) (s .rightlen))))
+    h ∙ rw (a, b) (ap (λ (t : List ℕ). isBelow t (take k v)) e)
 
 leads-at : (ps : List Poly) (i : ℕ) → getD (leads ps) i [] ≡ lead (getD ps i [])
 unfolding leads lead
@@ -121,25 +109,18 @@ module _ {K : Operations} (F : Field K) (O : Order) where
       ∙ sym (plus-append [] (shift [] v (G (o .first))) (scale K (K .neg 1) (shift u [] (G (o .second)))))
       ∙ rw (ev, eu)
 
--- the two words have at most 24 letters
-pub rest-short : (bytes : List ℕ) (s n k : ℕ) → n ≤ 24 → length (take (s + n - (s + k)) (drop (s + k) bytes)) ≤ 24
-rest-short bytes s n k h = let e = length-take (s + n - (s + k)) (drop (s + k) bytes) in omega arith
-
-pub front-short : (bytes : List ℕ) (s n k : ℕ) → n ≤ 24 → length (take (s + n - k - s) (drop s bytes)) ≤ 24
-front-short bytes s n k h = let e = length-take (s + n - k - s) (drop s bytes) in omega arith
-
--- they are the rest of the second leading word, and the first without its shared end
+-- the rest of the second leading word, and the first without its shared end
 module _ {coefs starts lens bytes firsts heads headlens : List ℕ} {base count : ℕ} (h : HeadsOf coefs starts lens bytes firsts base count heads headlens) (f : OverlapAt) where
   pub rest-lead : f .second < count
-      → take (getD heads (f .second) 0 + getD headlens (f .second) 0 - (getD heads (f .second) 0 + f .shared)) (drop (getD heads (f .second) 0 + f .shared) bytes)
+      → take (getD headlens (f .second) 0 - f .shared) (drop (getD heads (f .second) 0 + f .shared) bytes)
       ≡ drop (f .shared) (lead (family (familyAt coefs starts lens bytes firsts base count) (suc (f .second))))
-  rest-lead l = rest-lent bytes (getD heads (f .second) 0) (getD headlens (f .second) 0) (f .shared) ∙ ap (drop (f .shared)) (sym (lead-laid h (f .second) l))
+  rest-lead l = rest-part bytes (getD heads (f .second) 0) (getD headlens (f .second) 0) (f .shared) ∙ ap (drop (f .shared)) (sym (lead-laid h (f .second) l))
 
   pub front-lead : f .first < count
-      → take (getD heads (f .first) 0 + getD headlens (f .first) 0 - f .shared - getD heads (f .first) 0) (drop (getD heads (f .first) 0) bytes)
+      → take (getD headlens (f .first) 0 - f .shared) (drop (getD heads (f .first) 0) bytes)
       ≡ take (length (lead (family (familyAt coefs starts lens bytes firsts base count) (suc (f .first)))) - f .shared) (lead (family (familyAt coefs starts lens bytes firsts base count) (suc (f .first))))
   front-lead l =
-      front-lent bytes (getD heads (f .first) 0) (getD headlens (f .first) 0) (f .shared) (h .laid .inside (f .first) l)
+      front-part bytes (getD heads (f .first) 0) (getD headlens (f .first) 0) (f .shared) (h .laid .inside (f .first) l)
       ∙ ap (λ (u : Word). take (length u - f .shared) u) (sym (lead-laid h (f .first) l))
 
   -- the overlap word of the basis, and the greatest word of a line

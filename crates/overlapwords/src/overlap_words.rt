@@ -5,7 +5,6 @@ use field::arithmetic::neg;
 use linetests::bounds::is_below;
 use multiples::family::add_numbered;
 use sumlines::SumAt;
-use working::formula::start;
 use working::letters::compose;
 ghost use mathlib.Core.Path.{_≡_};
 ghost use Prim.Native.Nat.{_+_, _≤_};
@@ -23,7 +22,7 @@ ghost use Rattle.package.specs.Bounds.{isBelow};
 ghost use Rattle.working.specs.Working.{formula, Working};
 ghost use Rattle.working.specs.Family.{familyAt, Terms, Runs};
 ghost use Rattle.sumlines.specs.Heads.{HeadsOf};
-ghost use Rattle.sumlines.specs.Room.{Places};
+ghost use Rattle.sumlines.specs.Room.{Ready};
 ghost use Rattle.sumlines.specs.Lines.{LineFits, takenLine};
 ghost use Rattle.overlapwords.specs.OverlapPlaces.{cursorOf, Overlapped, laidOverlap, laidTop};
 
@@ -45,15 +44,17 @@ pub fn put_overlap(
     let first = f.first;
     let second = f.second;
     let shared = f.shared;
-    let d = heads[first];
-    let e = d + headlens[first];
     compose(
         lap,
-        &bytes[d..e],
+        bytes,
+        heads[first],
+        headlens[first],
         bytes,
         heads[second] + shared,
         headlens[second] - shared,
-        &bytes[0..0],
+        bytes,
+        0,
+        0,
     )
 }
 
@@ -76,17 +77,17 @@ pub fn is_under(
     ensures { λ r. ⌜ r ≡ isBelow (laidTop (now (heads .entry)) (now (headlens .entry)) (now (bytes .entry)) s) (take k (now (lap .entry))) ⌝ }
 {
     let g = s.of - 1;
-    let left = s.left;
-    let right = s.right;
-    let a = left + s.leftlen;
-    let b = right + s.rightlen;
     let i = compose(
         top,
-        &bytes[left..a],
+        bytes,
+        s.left,
+        s.leftlen,
         bytes,
         heads[g],
         headlens[g],
-        &bytes[right..b],
+        bytes,
+        s.right,
+        s.rightlen,
     );
     is_below(&top[0..i], &lap[0..k])
 }
@@ -117,7 +118,7 @@ pub fn start_difference(
     requires { ⌜ Terms p (now coefs) (now starts) (now lens) (now bytes) m ⌝ }
     requires { ⌜ Runs (now firsts) base count m ⌝ }
     requires { ⌜ All (Written (fieldOf p) wordOrder) (familyAt (now coefs) (now starts) (now lens) (now bytes) (now firsts) base count) ⌝ }
-    requires { ⌜ Places (now c) (now l) (now w) (now o) (now buf) ⌝ }
+    requires { ⌜ Ready (now c) (now l) (now w) (now o) (now buf) ⌝ }
     ensures { λ r. ⌜ r ≤ 96 ⌝ }
     ensures { λ r. ⌜ Working p (now (c .exit)) (now (l .exit)) (now (w .exit)) (now (o .exit)) r ⌝ }
     ensures { λ r. ⌜
@@ -128,18 +129,20 @@ pub fn start_difference(
     let first = f.first;
     let second = f.second;
     let shared = f.shared;
-    let d = heads[first];
-    let e = d + headlens[first] - shared;
-    let a = heads[second] + shared;
-    let b = heads[second] + headlens[second];
+    let front = headlens[first] - shared;
+    let behind = heads[second] + shared;
+    let rest = headlens[second] - shared;
     let x = neg(p, 1);
-    start(o);
     let k = add_numbered(
         p,
         1,
-        &bytes[0..0],
+        bytes,
+        0,
+        0,
         first + 1,
-        &bytes[a..b],
+        bytes,
+        behind,
+        rest,
         coefs,
         starts,
         lens,
@@ -158,9 +161,13 @@ pub fn start_difference(
     add_numbered(
         p,
         x,
-        &bytes[d..e],
+        bytes,
+        heads[first],
+        front,
         second + 1,
-        &bytes[0..0],
+        bytes,
+        0,
+        0,
         coefs,
         starts,
         lens,

@@ -18,7 +18,7 @@ use Rattle.reducing.specs.Reduction.{formulaLimits, Reduction, refusedBy
 -- The formula's bytes are read as the polynomial that lies in the slices, of at most 48 terms.
 pub record FormulaRead (h : Head) (fc fs fl text : List ℕ) : Type 0 where
   pub reads : readFormula (h .p) (h .letters) formulaLimits text ≡ formula (polyAt fc fs fl text)
-  pub given : Given (h .p) fc fs fl text 0
+  pub given : Given (h .p) fc fs fl text
   pub written : Written (fieldOf (h .p)) wordOrder (polyAt fc fs fl text)
   pub short : ShortWords 24 (polyAt fc fs fl text)
   pub few : length fc ≤ 48

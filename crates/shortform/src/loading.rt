@@ -26,7 +26,7 @@ pub fn load(
     buf: &mut [u8],
 ) -> usize
     requires { ⌜ (p ≤ 65536) × Field (fieldOf p) ⌝ }
-    requires { ⌜ Given p (now fc) (now fs) (now fl) (now bytes) 0 ⌝ }
+    requires { ⌜ Given p (now fc) (now fs) (now fl) (now bytes) ⌝ }
     requires { ⌜ Written (fieldOf p) wordOrder (polyAt (now fc) (now fs) (now fl) (now bytes)) ⌝ }
     requires { ⌜ Room (now c) (now l) (now w) (length (now o)) ⌝ }
     requires { ⌜ (length (now fc) ≤ length (now o)) × (72 ≤ length (now buf)) ⌝ }
@@ -41,12 +41,16 @@ pub fn load(
     add_multiple(
         p,
         1,
-        &bytes[0..0],
+        bytes,
+        0,
+        0,
         fc,
         fs,
         fl,
         bytes,
-        &bytes[0..0],
+        bytes,
+        0,
+        0,
         c,
         l,
         w,

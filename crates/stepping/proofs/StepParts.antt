@@ -3,7 +3,7 @@ use mathlib.Core.Path.{_≡_, sym, _∙_, ap}
 use mathlib.Core.List.{List, []}
 use Prim.Native.Nat.{ℕ, _+_, _-_, _≤_, _<_}
 use native.Mathlib.Omega.{arith}
-use lib.ListN.{length, getD, take, drop, length-take}
+use lib.ListN.{length, getD, take, drop}
 use Rattle.field.specs.Field.{fieldOf}
 use Rattle.words.specs.Word.{Word}
 use Rattle.words.specs.Order.{wordOrder}
@@ -32,13 +32,6 @@ coef-below p c l w o n k x v f h e =
     let q : getD c (getD o k 0) 0 ≡ x = ap (λ (t : Term). t .coef) (sym (terms-at (termAt c l w o) n k (single 0 []) h) ∙ e) in
     let s : getD c (getD o k 0) 0 < p = coef-small p c l w o n f k h in
     omega arith
-
--- the first letters of a buffer
-pub front-length : (a : ℕ) (b : List ℕ) → length (take (a - 0) (drop 0 b)) ≤ a
-front-length a b = simp length-take (omega arith)
-
-front-is : (a : ℕ) (b : List ℕ) → take (a - 0) (drop 0 b) ≡ take a b
-front-is a b = let e : a - 0 ≡ a = omega arith in rw e
 
 module _ (p : ℕ) (coefs starts lens bytes firsts : List ℕ) (base count m : ℕ) where
   abbrev ps : List Poly
@@ -80,20 +73,20 @@ module _ (p : ℕ) (coefs starts lens bytes firsts : List ℕ) (base count m : �
   -- the sum that the code makes is the step
   pub step-sum : (f : Poly) (t : Term) (w : List ℕ) (x start end i g n : ℕ) → n ≡ size g → StepAt t w start end i g → t .coef ≡ x → (y a b : ℕ) (lb rb : List ℕ)
       → y ≡ fieldOf p .neg x → take a lb ≡ take (start + i - start) (drop start w) → take b rb ≡ take (end - (start + i + n)) (drop (start + i + n) w)
-      → plus (fieldOf p) wordOrder f (scale (fieldOf p) y (shift (take (a - 0) (drop 0 lb)) (take (b - 0) (drop 0 rb)) (family ps g)))
+      → plus (fieldOf p) wordOrder f (scale (fieldOf p) y (shift (take a (drop 0 lb)) (take b (drop 0 rb)) (family ps g)))
       ≡ stepped (fieldOf p) wordOrder ps f t i g
   unfolding stepped takeAway lineAt
   step-sum f t w x start end i g n z s e y a b lb rb d u v =
-      let l : take (a - 0) (drop 0 lb) ≡ take i (t .word) = front-is a lb ∙ u ∙ s .left in
-      let r : take (b - 0) (drop 0 rb) ≡ drop (i + length (lead (family ps g))) (t .word) = front-is b rb ∙ v ∙ rw z (s .right) in
+      let l : take a (drop 0 lb) ≡ take i (t .word) = u ∙ s .left in
+      let r : take b (drop 0 rb) ≡ drop (i + length (lead (family ps g))) (t .word) = v ∙ rw z (s .right) in
       rw (l, r, d, ← e)
 
   -- left × leading word × right, as they are copied, is the term's word
   pub lead-place : (t : Term) (w : List ℕ) (start end i g n : ℕ) → n ≡ size g → StepAt t w start end i g → spot ps (t .word) ≡ found i g → (a b : ℕ) (lb rb : List ℕ)
       → take a lb ≡ take (start + i - start) (drop start w) → take b rb ≡ take (end - (start + i + n)) (drop (start + i + n) w) → (l' w' : List ℕ) (k : ℕ) → t .word ≡ wordAt l' w' k
-      → LeadPlace (family ps g) (take (a - 0) (drop 0 lb)) (take (b - 0) (drop 0 rb)) l' w' k
+      → LeadPlace (family ps g) (take a (drop 0 lb)) (take b (drop 0 rb)) l' w' k
   lead-place t w start end i g n z s spotted a b lb rb u v l' w' k e =
-      let l : take (a - 0) (drop 0 lb) ≡ take i (t .word) = front-is a lb ∙ u ∙ s .left in
-      let r : take (b - 0) (drop 0 rb) ≡ drop (i + length (lead (family ps g))) (t .word) = front-is b rb ∙ v ∙ rw z (s .right) in
+      let l : take a (drop 0 lb) ≡ take i (t .word) = u ∙ s .left in
+      let r : take b (drop 0 rb) ≡ drop (i + length (lead (family ps g))) (t .word) = v ∙ rw z (s .right) in
       let q = spot-found ps (t .word) i g spotted in
       record { some = q .0; word = rw (l, r) (q .1 ∙ e) }

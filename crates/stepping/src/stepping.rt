@@ -3,7 +3,7 @@
 use field::arithmetic::neg;
 use replacing::replace::add_onto_term;
 use working::formula::read_term;
-use working::letters::copy_to;
+use working::letters::put_word;
 ghost use mathlib.Core.Path.{_≡_};
 ghost use Prim.Native.Nat.{_+_, _-_, _≤_, _<_};
 ghost use lib.ListN.{length, getD, take, drop};
@@ -18,12 +18,13 @@ ghost use Rattle.shortform.specs.Search.{termOf};
 
 // Copies the letters from a on, before b, to the front of buf; the answer is how many they are.
 pub fn copy_part(buf: &mut [u8], w: &[u8], a: usize, b: usize) -> usize
-    requires { ⌜ (a ≤ b) × (b ≤ length (now w)) × (b - a ≤ length (now buf)) ⌝ }
-    ensures { λ r. ⌜ (r ≡ b - a) × (r ≤ length (now (buf .entry))) ⌝ }
+    requires { ⌜ (a ≤ b) × (b ≤ length (now w)) × (b - a ≤ 24) × (24 ≤ length (now buf)) ⌝ }
+    ensures { λ r. ⌜ r ≡ b - a ⌝ }
     ensures { λ r. ⌜ take r (now (buf .exit)) ≡ take (b - a) (drop a (now (w .entry))) ⌝ }
 {
-    copy_to(buf, 0, &w[a..b]);
-    b - a
+    let n = b - a;
+    put_word(buf, 0, w, a, n);
+    n
 }
 
 // How many letters the leading word of polynomial `of` has: its first term's.
@@ -88,9 +89,13 @@ pub fn step(
     add_onto_term(
         p,
         x,
-        &lbuf[0..a],
+        lbuf,
+        0,
+        a,
         of,
-        &rbuf[0..b],
+        rbuf,
+        0,
+        b,
         coefs,
         starts,
         lens,

@@ -5,9 +5,9 @@ use Prim.Native.Nat.{ℕ, zero, suc, _≤_, _<_}
 use native.Mathlib.Omega.{arith}
 use lib.ListN.{length}
 use Rattle.algebra.specs.Poly.{Poly}
-use Rattle.working.specs.Working.{Room, Working}
+use Rattle.working.specs.Working.{Room, Arranged, HoldsNone}
 use Rattle.working.specs.Family.{familyAt}
-use Rattle.sumlines.specs.Room.{Places}
+use Rattle.sumlines.specs.Room.{Places, Ready}
 
 pub record Sizes (c₀ l₀ w₀ o₀ b₀ c l w o b : List ℕ) : Type 0 where
   pub coefs : length c ≡ length c₀
@@ -37,6 +37,16 @@ kept-places p s =
     let x = p .room .coefs in let y = p .room .lens in let z = p .room .letters in let u = p .many in let v = p .buffer in
     let a = s .coefs in let b = s .lens in let c = s .letters in let d = s .places in let e = s .word in
     record { room = record { coefs = omega arith; lens = omega arith; letters = omega arith }; many = omega arith; buffer = omega arith }
+
+-- and they are ready where o is still arranged
+pub kept-ready : {c₀ l₀ w₀ o₀ b₀ c l w o b : List ℕ} → Ready c₀ l₀ w₀ o₀ b₀ → Sizes c₀ l₀ w₀ o₀ b₀ c l w o b → Arranged o → Ready c l w o b
+kept-ready r s a = record { places = kept-places (r .places) s; arranged = a }
+
+-- places that are named in order are ready
+pub ready-started : {c l w o₀ o b : List ℕ} → Places c l w o₀ b → length o ≡ length o₀ → HoldsNone o → Ready c l w o b
+ready-started {c} {l} {w} p e h =
+    let q = kept-places p (kept-sizes refl refl refl e refl) in
+    record { places = q; arranged = h c l w (q .room) .arranged }
 
 family-count : (coefs starts lens bytes firsts : List ℕ) (j n : ℕ) → length (familyAt coefs starts lens bytes firsts j n) ≡ n
 unfolding familyAt

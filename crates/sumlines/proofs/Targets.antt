@@ -12,7 +12,7 @@ use Rattle.algebra.specs.Ideal.{Family, family}
 use Rattle.algebra.specs.Written as Wr
 use Rattle.algebra.specs.Written.{Written, plus, written}
 use Rattle.algebra.proofs.WrittenForm.{written-of-written}
-use Rattle.working.specs.Working.{terms, formula, Room, HoldsNone, Working}
+use Rattle.working.specs.Working.{terms, formula, Room, Arranged, Working}
 
 -- one is an element
 pub one-below : (p : ℕ) → Field (fieldOf p) → 1 < p
@@ -43,17 +43,13 @@ unfolding shift
 shift-none [] = refl
 shift-none (t ∷ f) = ap₂ (λ (w : List ℕ) (g : Poly). record { coef = t .coef; word = w } ∷ g) (append-nil (t .word)) (shift-none f)
 
--- the arrays hold the formula of no terms
-pub holds-nothing : (p : ℕ) (c l w o : List ℕ) → HoldsNone o → Room c l w (length o) → Working p c l w o 0
+-- whatever the arrays hold, they hold the formula of no terms
+pub holds-nothing : (p : ℕ) (c l w o : List ℕ) → Arranged o → Room c l w (length o) → Working p c l w o 0
 unfolding terms
-holds-nothing p c l w o h r = record { holds = h c l w r; written = Wr.zero }
+holds-nothing p c l w o a r = record { holds = record { count = omega arith; room = r; arranged = a; short = λ i h. absurd (omega arith) }; written = Wr.zero }
 
 pub target-held : (p : ℕ) → Field (fieldOf p) → Admissible wordOrder → (c l w o : List ℕ) (f g : Poly) → Written (fieldOf p) wordOrder f
     → g ≡ plus (fieldOf p) wordOrder (formula c l w o 0) (scale (fieldOf p) 1 (shift [] [] f)) → g ≡ f
 unfolding terms written
 target-held p F A c l w o f g h e =
     e ∙ rw (shift-none f, scale-one F wordOrder f h) (written-of-written F A h)
-
--- a part of a list has no more entries than it is asked for
-pub short-part : (xs : List ℕ) (a n : ℕ) → n ≤ 24 → length (take (a + n - a) (drop a xs)) ≤ 24
-short-part xs a n h = let e = length-take (a + n - a) (drop a xs) in omega arith

@@ -3,7 +3,6 @@
 use crate::SumAt;
 use field::arithmetic::neg;
 use multiples::family::add_numbered;
-use working::formula::start;
 ghost use mathlib.Core.Path.{_≡_};
 ghost use Prim.Native.Nat.{_+_, _≤_};
 ghost use lib.ListN.{length};
@@ -13,9 +12,10 @@ ghost use Rattle.words.specs.Order.{wordOrder};
 ghost use Rattle.algebra.specs.Ideal.{family};
 ghost use Rattle.algebra.specs.Written.{Written};
 ghost use Rattle.algebra.specs.Steps.{takeAway};
-ghost use Rattle.working.specs.Working.{formula, Room, Working};
+ghost use Rattle.working.specs.Working.{formula, Working};
 ghost use Rattle.working.specs.Family.{familyAt, Terms, Runs};
 ghost use Rattle.sumlines.specs.Lines.{takenLine, LineFits};
+ghost use Rattle.sumlines.specs.Room.{Ready};
 
 // Takes a sum line away from the formula of n terms; the answer is how many terms it then has. The polynomials are count many from entry base of firsts on.
 pub fn take_line(
@@ -51,16 +51,16 @@ pub fn take_line(
         ⌝ }
 {
     let x = neg(p, s.coef);
-    let left = s.left;
-    let right = s.right;
-    let a = left + s.leftlen;
-    let b = right + s.rightlen;
     add_numbered(
         p,
         x,
-        &bytes[left..a],
+        bytes,
+        s.left,
+        s.leftlen,
         s.of,
-        &bytes[right..b],
+        bytes,
+        s.right,
+        s.rightlen,
         coefs,
         starts,
         lens,
@@ -101,8 +101,7 @@ pub fn start_with(
     requires { ⌜ Terms p (now coefs) (now starts) (now lens) (now bytes) m ⌝ }
     requires { ⌜ Runs (now firsts) base count m ⌝ }
     requires { ⌜ All (Written (fieldOf p) wordOrder) (familyAt (now coefs) (now starts) (now lens) (now bytes) (now firsts) base count) ⌝ }
-    requires { ⌜ Room (now c) (now l) (now w) (length (now o)) ⌝ }
-    requires { ⌜ (48 ≤ length (now o)) × (72 ≤ length (now buf)) ⌝ }
+    requires { ⌜ Ready (now c) (now l) (now w) (now o) (now buf) ⌝ }
     ensures { λ r. ⌜ r ≤ 48 ⌝ }
     ensures { λ r. ⌜ Working p (now (c .exit)) (now (l .exit)) (now (w .exit)) (now (o .exit)) r ⌝ }
     ensures { λ r. ⌜
@@ -110,13 +109,16 @@ pub fn start_with(
         ≡ family (familyAt (now (coefs .entry)) (now (starts .entry)) (now (lens .entry)) (now (bytes .entry)) (now (firsts .entry)) base count) of
         ⌝ }
 {
-    start(o);
     add_numbered(
         p,
         1,
-        &bytes[0..0],
+        bytes,
+        0,
+        0,
         of,
-        &bytes[0..0],
+        bytes,
+        0,
+        0,
         coefs,
         starts,
         lens,

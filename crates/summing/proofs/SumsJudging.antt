@@ -14,8 +14,7 @@ use Rattle.words.specs.Order.{Order, wordOrder}
 use Rattle.algebra.specs.Poly.{Poly}
 use Rattle.algebra.specs.Ideal.{Family, family, Line}
 use Rattle.algebra.specs.Steps.{takeAway}
-use Rattle.working.specs.Working.{terms, termAt, formula, Working}
-use Rattle.working.proofs.Terms.{terms-length}
+use Rattle.working.specs.Working.{terms, formula, Arranged}
 use Rattle.package.specs.declared.Head.{Head}
 use Rattle.package.specs.Package.{packageLimits}
 use Rattle.package.specs.Sums.{SumLine, ofs}
@@ -143,7 +142,7 @@ module _ (h : Head) (number kind : ℕ) (bytes : List ℕ) (G : Family) (fs : Li
             told = refl;
           }
 
-  pub items-end : (count at line g : ℕ) (answer : SumsAnswer) → ItemsDone at line g answer → g ≡ count → length fs ≤ g
-      → (verdictOf answer ≡ whole) × LeftBehind h kind count bytes ss₀ answer
+  pub items-end : (count at line g : ℕ) (answer : SumsAnswer) → ItemsDone at line g answer → g ≡ count → length fs ≤ g → {o : List ℕ} → Arranged o
+      → (verdictOf answer ≡ whole) × (LeftBehind h kind count bytes ss₀ answer × Arranged o)
   unfolding verdictOf LeftBehind sumsJudged
-  items-end count at line g answer d e l = rw (d .told) (rw (drop-of-length-le fs l) at (d .same), (rw e at (d .reached), d .past))
+  items-end count at line g answer d e l a = rw (d .told) (rw (drop-of-length-le fs l) at (d .same), ((rw e at (d .reached), d .past), a))

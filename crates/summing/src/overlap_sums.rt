@@ -21,7 +21,7 @@ ghost use Rattle.acceptance.specs.Check.{overlapsJudged};
 ghost use Rattle.sumlines.specs.Heads.{HeadsOf};
 ghost use Rattle.sumlines.specs.Lines.{sumsAt};
 ghost use Rattle.summing.specs.Judged.{verdictOf, Reached, Sides};
-ghost use Rattle.sumlines.specs.Room.{Places};
+ghost use Rattle.sumlines.specs.Room.{Ready};
 
 // The sums of the overlaps of count basis polynomials, whose leading words are given: their lines stand from the place from on, where the
 // line has the number first. In each line 14 comes before 10, and at the end of an overlap's lines 13.
@@ -49,7 +49,7 @@ pub fn judge_overlaps(
     requires { ⌜ Sides h 3 (now coefs) (now starts) (now lens) (now bytes) (now firsts) base count base count m ⌝ }
     requires { ⌜ HeadsOf (now coefs) (now starts) (now lens) (now bytes) (now firsts) base count (now heads) (now headlens) ⌝ }
     requires { ⌜ Reached h 3 1 (now bytes) from first ⌝ }
-    requires { ⌜ Places (now c) (now l) (now w) (now o) (now buf) ⌝ }
+    requires { ⌜ Ready (now c) (now l) (now w) (now o) (now buf) ⌝ }
     requires { ⌜ (count ≤ 64) × (72 ≤ length (now lap)) ⌝ }
     ensures { λ r. ⌜
         verdictOf r

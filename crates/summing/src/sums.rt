@@ -10,10 +10,11 @@ ghost use Rattle.field.specs.Field.{fieldOf};
 ghost use Rattle.words.specs.Order.{wordOrder};
 ghost use Rattle.algebra.specs.Ideal.{family};
 ghost use Rattle.working.specs.Family.{familyAt};
+ghost use Rattle.working.specs.Working.{Arranged};
 ghost use Rattle.acceptance.specs.Check.{sumsJudged};
 ghost use Rattle.sumlines.specs.Lines.{sumsAt};
 ghost use Rattle.summing.specs.Judged.{verdictOf, Reached, LeftBehind, Sides};
-ghost use Rattle.sumlines.specs.Room.{Places};
+ghost use Rattle.sumlines.specs.Room.{Ready};
 
 // The sums of kind `kind`, for tcount targets over ocount polynomials: their lines stand from the place from on, where the line has the
 // number first. A wrong sum gives the number `number` at its item.
@@ -41,7 +42,7 @@ pub fn judge_sums(
 ) -> SumsAnswer
     requires { ⌜ Sides h kind (now coefs) (now starts) (now lens) (now bytes) (now firsts) tbase tcount obase ocount m ⌝ }
     requires { ⌜ Reached h kind 1 (now bytes) from first ⌝ }
-    requires { ⌜ Places (now c) (now l) (now w) (now o) (now buf) ⌝ }
+    requires { ⌜ Ready (now c) (now l) (now w) (now o) (now buf) ⌝ }
     ensures { λ r. ⌜
         verdictOf r
         ≡ sumsJudged number kind (fieldOf (h .p)) wordOrder
@@ -50,6 +51,7 @@ pub fn judge_sums(
         (familyAt (now (coefs .entry)) (now (starts .entry)) (now (lens .entry)) (now (bytes .entry)) (now (firsts .entry)) tbase tcount) 1
         ⌝ }
     ensures { λ r. ⌜ LeftBehind h kind tcount (now (bytes .entry)) (sumsAt (now (bytes .entry)) from first) r ⌝ }
+    ensures { λ _. ⌜ Arranged (now (o .exit)) ⌝ }
 {
     let mut at = from;
     let mut line = first;

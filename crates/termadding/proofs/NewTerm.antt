@@ -1,12 +1,11 @@
 -- A term stored at the free place that entry n of o names, and that entry moved to k: the term stands before term k.
-use mathlib.Core.Path.{_≡_, ap, _∙_}
+use mathlib.Core.Path.{_≡_, sym, ap, _∙_}
 use mathlib.Core.List.{List}
 use Prim.Native.Nat.{ℕ, _+_, _-_, _*_, _≤_, _<_}
 use native.Mathlib.Decide.{decLt}
 use native.Mathlib.Omega.{arith}
-use lib.ListN.{length, getD, set, length-set}
-use lib.Seq.{length-sets, getD-set-same, getD-set-other}
-use Rattle.words.specs.Word.{Word}
+use lib.ListN.{length, getD, set, take, drop, length-set}
+use lib.Seq.{sets, length-sets, length-take-le, take-take, getD-set-same, getD-set-other}
 use Rattle.algebra.specs.Poly.{Term}
 use Rattle.working.specs.Working.{placed, termAt, terms, formula, Holds}
 use Rattle.working.specs.Rotation.{Moved, rotatedRight, rotatedLeft}
@@ -16,14 +15,14 @@ use Rattle.working.proofs.Terms.{terms-same, terms-right}
 use Rattle.working.proofs.Places.{holds-moved}
 use Rattle.termadding.proofs.Rotations.{left-right, right-below}
 
-module _ (c l w o : List ℕ) (n x : ℕ) (v : Word) (c' l' w' : List ℕ) (f : Holds c l w o n) (free : n < length o) (fits : length v ≤ 72)
-    (st : Stored c l w (getD o n 0) x v c' l' w') where
+module _ (c l w o : List ℕ) (n x : ℕ) (v : List ℕ) (e : ℕ) (c' l' w' : List ℕ) (f : Holds c l w o n) (free : n < length o) (fits : (e ≤ 72) × (72 ≤ length v))
+    (st : Stored c l w (getD o n 0) x v e c' l' w') where
   abbrev s : ℕ
   s = getD o n 0
 
   -- the place is that of no term
   other : (i : ℕ) → i < n → getD o i 0 ≡ s → ⊥
-  other i h e = let q = f .arranged .apart i n (omega arith) free e in omega arith
+  other i h q = let q = f .arranged .apart i n (omega arith) free q in omega arith
 
   there : s < length o
   there = f .arranged .inside n free
@@ -37,23 +36,31 @@ module _ (c l w o : List ℕ) (n x : ℕ) (v : Word) (c' l' w' : List ℕ) (f : 
   in-letters : s * 72 + 72 ≤ length w
   in-letters = omega (arith, f .room .letters, there)
 
+  size : length (take 72 v) ≡ 72
+  size = length-take-le 72 v (fits .1)
+
   term-kept : (i : ℕ) → i < n → termAt c' l' w' o i ≡ termAt c l w o i
   term-kept i h =
       let d = other i h in
-      let a : getD (set l s (length v)) (getD o i 0) 0 ≡ getD l (getD o i 0) 0 = getD-set-other l s (getD o i 0) (length v) 0 d in
+      let a : getD (set l s e) (getD o i 0) 0 ≡ getD l (getD o i 0) 0 = getD-set-other l s (getD o i 0) e 0 d in
       rw (
         st .coefs,
         st .lens,
         st .letters,
         a,
         getD-set-other c s (getD o i 0) x 0 d,
-        part-kept w v s (getD o i 0) (getD l (getD o i 0) 0) d fits (f .short i h) in-letters,
+        part-kept w (take 72 v) s (getD o i 0) (getD l (getD o i 0) 0) d (omega (arith, size)) (f .short i h) in-letters,
       )
 
-  term-new : termAt c' l' w' o n ≡ single x v
-  term-new =
-      let b : s * 72 + length v ≤ length w = omega (arith, in-letters) in
-      rw (st .coefs, st .lens, st .letters, getD-set-same c s x 0 in-coefs, getD-set-same l s (length v) 0 in-lens, part-new w v (s * 72) b)
+  -- of the letters stored, the first e are the word
+  word-new : take e (drop (s * 72) (sets w (s * 72) (take 72 v))) ≡ take e v
+  word-new =
+      let b : s * 72 + length (take 72 v) ≤ length w = omega (arith, in-letters, size) in
+      let whole : take 72 (drop (s * 72) (sets w (s * 72) (take 72 v))) ≡ take 72 v = rw size at (part-new w (take 72 v) (s * 72) b) in
+      sym (take-take e 72 (drop (s * 72) (sets w (s * 72) (take 72 v))) (fits .0)) ∙ ap (take e) whole ∙ take-take e 72 v (fits .0)
+
+  term-new : termAt c' l' w' o n ≡ single x (take e v)
+  term-new = rw (st .coefs, st .lens, st .letters, getD-set-same c s x 0 in-coefs, getD-set-same l s e 0 in-lens, word-new)
 
   -- one term more, behind the others
   holds-stored : Holds c' l' w' o (n + 1)
@@ -69,8 +76,8 @@ module _ (c l w o : List ℕ) (n x : ℕ) (v : Word) (c' l' w' : List ℕ) (f : 
   }
     where
       short : (i : ℕ) → i < n + 1 → Dec (i < n) → getD l' (getD o i 0) 0 ≤ 72
-      short i h (yes q) = rw (st .lens, getD-set-other l s (getD o i 0) (length v) 0 (other i q)) (f .short i q)
-      short i h (no q) = let e : i ≡ n = omega arith in rw (e, st .lens, getD-set-same l s (length v) 0 in-lens) fits
+      short i h (yes q) = rw (st .lens, getD-set-other l s (getD o i 0) e 0 (other i q)) (f .short i q)
+      short i h (no q) = let z : i ≡ n = omega arith in rw (z, st .lens, getD-set-same l s e 0 in-lens) (fits .0)
 
   module _ (k : ℕ) (h : k ≤ n) (o' : List ℕ) (mv : Moved (rotatedRight k n) o o') where
     pub holds-before : Holds c' l' w' o' (n + 1)
@@ -78,7 +85,7 @@ module _ (c l w o : List ℕ) (n x : ℕ) (v : Word) (c' l' w' : List ℕ) (f : 
         holds-moved c' l' w' o o' (n + 1) (rotatedRight k n) (rotatedLeft k n) (left-right k n h)
         (λ j q. right-below k n h (length o) j free q) (λ j q. right-below k n h (n + 1) j (omega arith) q) mv holds-stored
 
-    pub formula-before : formula c' l' w' o' (n + 1) ≡ before (termAt c l w o) n k x v
+    pub formula-before : formula c' l' w' o' (n + 1) ≡ before (termAt c l w o) n k x (take e v)
     formula-before =
         let G : ℕ → Term = termAt c' l' w' o in
         let F : ℕ → Term = termAt c l w o in

@@ -3,32 +3,33 @@
 use field::arithmetic::add;
 use working::entries::rotate_left;
 use working::entries::rotate_right;
-use working::letters::copy_to;
+use working::letters::copy_place;
 use working::search::find;
 ghost use mathlib.Core.Path.{_≡_};
 ghost use Prim.Native.Nat.{_+_, _≤_, _<_};
-ghost use lib.ListN.{length};
+ghost use lib.ListN.{length, take};
 ghost use Rattle.field.specs.Field.{Field, fieldOf};
 ghost use Rattle.words.specs.Order.{wordOrder};
 ghost use Rattle.algebra.specs.Written.{insert};
 ghost use Rattle.working.specs.Working.{termAt, formula, Room, Holds, Working};
 ghost use Rattle.working.specs.Change.{Stored, onto, before, single};
 
-// Stores the term x × v at place s.
-pub fn store(x: u32, v: &[u8], c: &mut [u32], l: &mut [usize], w: &mut [u8], s: usize)
-    requires { ⌜ length (now v) ≤ 72 ⌝ }
+// Stores a term at place s: its coefficient is x, its word the first e letters of v.
+pub fn store(x: u32, v: &[u8], e: usize, c: &mut [u32], l: &mut [usize], w: &mut [u8], s: usize)
+    requires { ⌜ (e ≤ 72) × (72 ≤ length (now v)) ⌝ }
     requires { ⌜ Room (now c) (now l) (now w) (s + 1) ⌝ }
-    ensures { λ _. ⌜ Stored (now (c .entry)) (now (l .entry)) (now (w .entry)) s x (now (v .entry)) (now (c .exit)) (now (l .exit)) (now (w .exit)) ⌝ }
+    ensures { λ _. ⌜ Stored (now (c .entry)) (now (l .entry)) (now (w .entry)) s x (now (v .entry)) e (now (c .exit)) (now (l .exit)) (now (w .exit)) ⌝ }
 {
     c[s] = x;
-    l[s] = v.len();
-    copy_to(w, s * 72, v);
+    l[s] = e;
+    copy_place(w, s * 72, v);
 }
 
-// Puts the term x × v before term k.
+// Puts a term before term k: its coefficient is x, its word the first e letters of v.
 pub fn put_before(
     x: u32,
     v: &[u8],
+    e: usize,
     c: &mut [u32],
     l: &mut [usize],
     w: &mut [u8],
@@ -36,17 +37,17 @@ pub fn put_before(
     n: usize,
     k: usize,
 )
-    requires { ⌜ length (now v) ≤ 72 ⌝ }
+    requires { ⌜ (e ≤ 72) × (72 ≤ length (now v)) ⌝ }
     requires { ⌜ (k ≤ n) × (n < length (now o)) ⌝ }
     requires { ⌜ Holds (now c) (now l) (now w) (now o) n ⌝ }
     ensures { λ _. ⌜ Holds (now (c .exit)) (now (l .exit)) (now (w .exit)) (now (o .exit)) (n + 1) ⌝ }
     ensures { λ _. ⌜
         formula (now (c .exit)) (now (l .exit)) (now (w .exit)) (now (o .exit)) (n + 1)
-        ≡ before (termAt (now (c .entry)) (now (l .entry)) (now (w .entry)) (now (o .entry))) n k x (now (v .entry))
+        ≡ before (termAt (now (c .entry)) (now (l .entry)) (now (w .entry)) (now (o .entry))) n k x (take e (now (v .entry)))
         ⌝ }
 {
     let s = o[n];
-    store(x, v, c, l, w, s);
+    store(x, v, e, c, l, w, s);
     rotate_right(o, k, n);
 }
 
@@ -82,11 +83,12 @@ pub fn add_onto(
     n
 }
 
-// Adds the term x × v to the formula; the answer is how many terms it then has.
+// Adds a term to the formula: its coefficient is x, its word the first e letters of v. The answer is how many terms there then are.
 pub fn add_term(
     p: u32,
     x: u32,
     v: &[u8],
+    e: usize,
     c: &mut [u32],
     l: &mut [usize],
     w: &mut [u8],
@@ -94,22 +96,22 @@ pub fn add_term(
     n: usize,
 ) -> usize
     requires { ⌜ (p ≤ 65536) × (x < p) × Field (fieldOf p) ⌝ }
-    requires { ⌜ (length (now v) ≤ 72) × (n < length (now o)) ⌝ }
+    requires { ⌜ (e ≤ 72) × (72 ≤ length (now v)) × (n < length (now o)) ⌝ }
     requires { ⌜ Working p (now c) (now l) (now w) (now o) n ⌝ }
     ensures { λ r. ⌜ r ≤ n + 1 ⌝ }
     ensures { λ r. ⌜ Holds (now (c .exit)) (now (l .exit)) (now (w .exit)) (now (o .exit)) r ⌝ }
     ensures { λ r. ⌜
         formula (now (c .exit)) (now (l .exit)) (now (w .exit)) (now (o .exit)) r
-        ≡ insert (fieldOf p) wordOrder (single x (now (v .entry))) (formula (now (c .entry)) (now (l .entry)) (now (w .entry)) (now (o .entry)) n)
+        ≡ insert (fieldOf p) wordOrder (single x (take e (now (v .entry)))) (formula (now (c .entry)) (now (l .entry)) (now (w .entry)) (now (o .entry)) n)
         ⌝ }
 {
-    let f = find(v, l, w, o, n);
+    let f = find(v, e, l, w, o, n);
     if f.present {
         return add_onto(p, x, c, l, w, o, n, f.index);
     }
     if x == 0 {
         return n;
     }
-    put_before(x, v, c, l, w, o, n, f.index);
+    put_before(x, v, e, c, l, w, o, n, f.index);
     n + 1
 }

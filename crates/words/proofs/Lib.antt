@@ -8,4 +8,5 @@ pub mod WordOrder
 pub mod Standing
 pub mod LaidWords
 pub mod Turns
+pub mod Numbers
 pub mod Blocks

@@ -3,9 +3,9 @@
 
 use crate::Comparison;
 ghost use mathlib.Core.Path.{_≡_};
-ghost use Prim.Native.Nat.{_+_, _≤_, _<_};
-ghost use lib.ListN.{length, drop};
-ghost use Rattle.words.specs.Order.{letterRank, byLetters, wordOrder};
+ghost use Prim.Native.Nat.{_+_, _-_, _*_, _/_, _^_, _≤_, _<_};
+ghost use lib.ListN.{length, take, drop};
+ghost use Rattle.words.specs.Order.{byNumber, wordOrder};
 ghost use Rattle.words.specs.Block.{blockAt};
 
 // A byte as a wider number.
@@ -15,7 +15,7 @@ fn wide(a: u8) -> u64
     a as u64
 }
 
-// Eight letters from place i on, as one number.
+// Eight letters from place i on, as one number, the first as the highest byte. (Summed in halves, and not in a row, they are read from memory all at once.)
 fn block(u: &[u8], i: usize) -> u64
     requires { ⌜ i + 8 ≤ length (now u) ⌝ }
     ensures { λ r. ⌜ r ≡ blockAt (now (u .entry)) i ⌝ }
@@ -28,29 +28,53 @@ fn block(u: &[u8], i: usize) -> u64
     let f = wide(u[i + 5]);
     let g = wide(u[i + 6]);
     let h = wide(u[i + 7]);
-    a
-        + b * 256
-        + c * 65536
-        + d * 16777216
-        + e * 4294967296
-        + f * 1099511627776
-        + g * 281474976710656
-        + h * 72057594037927936
+    ((a * 72057594037927936 + b * 281474976710656) + (c * 1099511627776 + d * 4294967296))
+        + ((e * 16777216 + f * 65536) + (g * 256 + h))
 }
 
-// How many letters agree from the start, eight at a time: a place behind which the first difference is.
-fn same_blocks(u: &[u8], v: &[u8]) -> usize
-    requires { ⌜ length (now u) ≡ length (now v) ⌝ }
-    ensures { λ r. ⌜ (r ≤ length (now (u .entry))) × (byLetters letterRank (drop r (now (u .entry))) (drop r (now (v .entry))) ≡ byLetters letterRank (now (u .entry)) (now (v .entry))) ⌝ }
+// How many low bits of a block do not count where its first r letters do.
+fn beyond(r: usize) -> usize
+    requires { ⌜ 1 ≤ r ⌝ }
+    ensures { λ m. ⌜ (m ≡ 64 - 8 * r) × (m < 64) ⌝ }
 {
-    let mut i = 0;
-    while i + 8 <= u.len() {
-        if block(u, i) != block(v, i) {
-            return i;
-        }
-        i += 8;
+    if r < 8 {
+        return 64 - 8 * r;
     }
-    i
+    0
+}
+
+// What blocks say of which the first r letters count: the greater number has the later letter, so it is the lower word's.
+fn decide(x: u64, y: u64, r: usize) -> Comparison
+    requires { ⌜ 1 ≤ r ⌝ }
+    ensures { λ c. ⌜ c ≡ byNumber (y / 2 ^ (64 - 8 * r)) (x / 2 ^ (64 - 8 * r)) Comparison.Equal ⌝ }
+{
+    let m = beyond(r);
+    let a = x >> m;
+    let b = y >> m;
+    if a < b {
+        return Comparison::Above;
+    }
+    if b < a {
+        return Comparison::Below;
+    }
+    Comparison::Equal
+}
+
+// How the first n letters of u stand to the n letters of v from `at` on. Both have room for 72 letters, so that whole blocks can be read.
+pub fn compare_level(u: &[u8], v: &[u8], at: usize, n: usize) -> Comparison
+    requires { ⌜ (n ≤ 72) × (72 ≤ length (now u)) × (at + 72 ≤ length (now v)) ⌝ }
+    ensures { λ r. ⌜ r ≡ wordOrder (take n (now (u .entry))) (take n (drop at (now (v .entry)))) ⌝ }
+{
+    let mut k = 0;
+    while k < n {
+        let x = block(u, k);
+        let y = block(v, at + k);
+        if x != y {
+            return decide(x, y, n - k);
+        }
+        k += 8;
+    }
+    Comparison::Equal
 }
 
 // How u stands to v.
@@ -63,7 +87,15 @@ pub fn compare(u: &[u8], v: &[u8]) -> Comparison
     if v.len() < u.len() {
         return Comparison::Above;
     }
-    let mut i = same_blocks(u, v);
+    let mut i = 0;
+    while i + 8 <= u.len() {
+        let x = block(u, i);
+        let y = block(v, i);
+        if x != y {
+            return decide(x, y, 8);
+        }
+        i += 8;
+    }
     while i < u.len() {
         if u[i] != v[i] {
             if u[i] < v[i] {

@@ -4,6 +4,7 @@ pub mod Places
 pub mod RotationRight
 pub mod RotationLeft
 pub mod Parts
+pub mod EightLetters
 pub mod Falling
 mod Halving
 pub mod Numbered

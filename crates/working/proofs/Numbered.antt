@@ -19,9 +19,9 @@ pub between-at : (xs : List ℕ) (a b i : ℕ) → i < b - a → getD (between x
 between-at xs a b i h = getD-take (b - a) (drop a xs) i 0 h ∙ getD-drop a xs i 0
 
 module _ {p : ℕ} {coefs starts lens bytes : List ℕ} {m : ℕ} (h : Terms p coefs starts lens bytes m) where
-  -- a part of well-formed terms is a polynomial that can be added, between words of at most 24 letters
-  pub part-given : (a b more : ℕ) → a ≤ b → b ≤ m → more ≤ 48 → Given p (between coefs a b) (between starts a b) (between lens a b) bytes more
-  part-given a b more l k n =
+  -- a part of well-formed terms is a polynomial that can be added
+  pub part-given : (a b : ℕ) → a ≤ b → b ≤ m → Given p (between coefs a b) (between starts a b) (between lens a b) bytes
+  part-given a b l k =
       let c = h .coefs-hold in
       let s = h .starts-hold in
       let e = h .lens-hold in
@@ -33,7 +33,7 @@ module _ {p : ℕ} {coefs starts lens bytes : List ℕ} {m : ℕ} (h : Terms p c
         lens = ll ∙ sym lc;
         small = λ i q. rw (between-at coefs a b i (omega arith)) (h .small (a + i) (omega arith));
         inside = λ i q. rw (between-at starts a b i (omega arith), between-at lens a b i (omega arith)) (h .inside (a + i) (omega arith));
-        short = λ i q. let x = h .short (a + i) (omega arith) in rw (between-at lens a b i (omega arith)) (omega arith);
+        short = λ i q. rw (between-at lens a b i (omega arith)) (h .short (a + i) (omega arith));
       }
 
 module _ (coefs starts lens bytes firsts : List ℕ) where

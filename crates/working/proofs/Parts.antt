@@ -7,7 +7,6 @@ use native.Mathlib.Decide.{decLt}
 use native.Mathlib.Omega.{arith}
 use lib.ListN.{length, take, drop, set, length-append, length-drop, take-append-drop}
 use lib.Seq.{sets, sets-eq, length-take-le, take-append-le, drop-append-le, drop-set-lt, take-at, drop-at}
-use Rattle.words.specs.Word.{around}
 
 -- the count of the part a to a + n
 pub cut : (a n : ℕ) → a + n - a ≡ n
@@ -55,20 +54,6 @@ part-new w v a h =
     ∙ ap (take (length v)) (drop-at (take a w) (v ++ drop (a + length v) w) a n)
     ∙ take-at v (drop (a + length v) w) (length v) refl
 
-sets-append : (w : List ℕ) (i : ℕ) (a b : List ℕ) → sets w i (a ++ b) ≡ sets (sets w i a) (i + length a) b
+pub sets-append : (w : List ℕ) (i : ℕ) (a b : List ℕ) → sets w i (a ++ b) ≡ sets (sets w i a) (i + length a) b
 sets-append w i [] b = rw add-zero
 sets-append w i (x ∷ a) b = let e : suc i + length a ≡ i + suc (length a) = omega arith in sets-append (set w i x) (suc i) a b ∙ rw e
-
--- left, a word of n letters and right, stored one behind the other, are their product
-pub parts-around : (b b1 b2 b3 left v right : List ℕ) (n r : ℕ) → length v ≡ n → n + (length left + length right) ≤ length b
-    → r ≡ length left + n + length right
-    → b1 ≡ sets b 0 left → b2 ≡ sets b1 (length left) v → b3 ≡ sets b2 (length left + n) right
-    → take r b3 ≡ around left right v
-parts-around b b1 b2 b3 left v right n r q k d e1 e2 e3 =
-    let u = around left right v in
-    let s : r ≡ length u = rw (length-append, length-append) (omega arith) in
-    let x : 0 + length left ≡ length left = omega arith in
-    let y : length left + n ≡ length left + length v = rw q in
-    let z : b3 ≡ sets b 0 u =
-    rw (e3, e2, e1, y) (sym (sets-append b 0 left (v ++ right) ∙ rw x (sets-append (sets b 0 left) (length left) v right))) in
-    rw (s, z) (part-new b u 0 (omega arith))

@@ -2,7 +2,7 @@
 use mathlib.Core.Path.{_≡_}
 use mathlib.Core.List.{List, _∷_, _++_}
 use Prim.Native.Nat.{ℕ, _+_, _-_, _*_}
-use lib.ListN.{length, set}
+use lib.ListN.{set, take}
 use lib.Seq.{sets}
 use Rattle.field.specs.Field.{Operations}
 use Rattle.words.specs.Word.{Word}
@@ -10,11 +10,11 @@ use Rattle.algebra.specs.Poly.{Term, Poly}
 use Rattle.algebra.specs.Written.{put}
 use Rattle.working.specs.Working.{terms}
 
--- The term x × v was stored at place s.
-pub record Stored (c l w : List ℕ) (s x : ℕ) (v : Word) (c' l' w' : List ℕ) : Type 0 where
+-- A term was stored at place s: its coefficient is x, and its word the first e of the 72 letters of v.
+pub record Stored (c l w : List ℕ) (s x : ℕ) (v : List ℕ) (e : ℕ) (c' l' w' : List ℕ) : Type 0 where
   pub coefs : c' ≡ set c s x
-  pub lens : l' ≡ set l s (length v)
-  pub letters : w' ≡ sets w (s * 72) v
+  pub lens : l' ≡ set l s e
+  pub letters : w' ≡ sets w (s * 72) (take 72 v)
 
 -- The term x × v.
 abbrev pub single : ℕ → Word → Term

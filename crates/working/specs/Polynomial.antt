@@ -15,11 +15,10 @@ polyTerm gc gs gl bytes i = record { coef = getD gc i 0; word = laidWord gs gl b
 abbrev pub polyAt : List ℕ → List ℕ → List ℕ → List ℕ → Poly
 polyAt gc gs gl bytes = terms (polyTerm gc gs gl bytes) 0 (length gc)
 
--- Its slices are equally long, its coefficients are elements, its words lie within the bytes,
--- and each of them with `more` further letters fits a place.
-pub record Given (p : ℕ) (gc gs gl bytes : List ℕ) (more : ℕ) : Type 0 where
+-- Its slices are equally long, its coefficients are elements, and its words lie within the bytes and have at most 24 letters.
+pub record Given (p : ℕ) (gc gs gl bytes : List ℕ) : Type 0 where
   pub starts : length gs ≡ length gc
   pub lens : length gl ≡ length gc
   pub small : (i : ℕ) → i < length gc → getD gc i 0 < p
   pub inside : (i : ℕ) → i < length gc → getD gs i 0 + getD gl i 0 ≤ length bytes
-  pub short : (i : ℕ) → i < length gc → getD gl i 0 + more ≤ 72
+  pub short : (i : ℕ) → i < length gc → getD gl i 0 ≤ 24

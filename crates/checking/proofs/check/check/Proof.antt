@@ -1,6 +1,7 @@
 use borrow.Author.Needs.{needs}
 -- `check` judges 8 and 9, and then the sums.
 use mathlib.Core.Path.{_≡_, sym, ap, _∙_}
+use Rattle.sumlines.proofs.Sizes.{ready-started}
 use Rattle.checking.proofs.Joined.{then-refused, then-fine, answer-refused, answer-same, basis-refused, basis-sound, heads-sound}
 use Rattle.checking.proofs.check.check.Statement.{statement}
 use Rattle.checking.proofs.check.check.Tie as tie
@@ -23,10 +24,13 @@ returns c = answer-refused _ _ _ _ (then-refused _ _ _ _ (basis-refused _ _ (c .
 enum-told : tie.Need-enum-told
 enum-told c = search needs
 
+start-requires : tie.Need-start-requires
+start-requires c κs = search needs
+
 judge-package-requires : tie.Need-judge-package-requires
 judge-package-requires c κs =
-    let s = c .before .before .before .before .before .before .before .before .before .before .before .before .before .before .before .before .before .before .before .before .before .before .before .before .before .before .before .before .before .before in
-    (s .pre .0, (heads-sound _ _ _ _ _ _ _ _ _ _ (c .before .before .before .before .before .before .before .before .before .before .before .before .before .before .judge-basis .ensures .1) (c .before .before .before .before .before .before .before .before .enum-told .given .1), (s .pre .1 .0, (s .pre .1 .1 .1 .0, s .pre .1 .1 .1 .1))))
+    let s = c .before .before .before .before .before .before .before .before .before .before .before .before .before .before .before .before .before .before .before .before .before .before .before .before .before .before .before .before .before .before .before .before .before .before in
+    (s .pre .0, (heads-sound _ _ _ _ _ _ _ _ _ _ (c .before .before .before .before .before .before .before .before .before .before .before .before .before .before .before .before .before .before .judge-basis .ensures .1) (c .before .before .before .before .before .before .before .before .before .before .before .before .enum-told .given .1), (s .pre .1 .0, (ready-started (s .pre .1 .1 .1 .0) (c .before .before .before .before .before .before .before .before .before .before .start .kept .0) (c .before .before .before .before .before .before .before .before .before .before .start .ensures), s .pre .1 .1 .1 .1))))
 
 same-length-3 : tie.Need-same-length-3
 same-length-3 c = search needs
@@ -53,7 +57,7 @@ same-length-10 : tie.Need-same-length-10
 same-length-10 c = search needs
 
 returns-2 : tie.Need-returns-2
-returns-2 c = answer-same _ _ _ _ (c .before .before .before .before .before .before .before .before .before .before .before .before .judge-package .ensures) (then-fine _ _ (basis-sound _ _ (c .before .before .before .before .before .before .before .before .before .before .before .before .before .before .before .before .before .before .before .before .before .before .before .before .before .before .before .judge-basis .ensures .0) (c .before .before .before .before .before .before .before .before .before .before .before .before .before .before .before .before .before .before .before .before .before .enum-told .given .1)))
+returns-2 c = answer-same _ _ _ _ (c .before .before .before .before .before .before .before .before .before .before .before .before .judge-package .ensures) (then-fine _ _ (basis-sound _ _ (c .before .before .before .before .before .before .before .before .before .before .before .before .before .before .before .before .before .before .before .before .before .before .before .before .before .before .before .before .before .before .before .judge-basis .ensures .0) (c .before .before .before .before .before .before .before .before .before .before .before .before .before .before .before .before .before .before .before .before .before .before .before .before .before .enum-told .given .1)))
 
 pub check-spec : {M : Type 1} → statement M
 check-spec =
@@ -65,6 +69,7 @@ check-spec =
     same-length-2
     returns
     enum-told
+    start-requires
     judge-package-requires
     same-length-3
     same-length-4

@@ -4,7 +4,7 @@ use mathlib.Core.Path.{_≡_, sym, ap, _∙_}
 use mathlib.Core.Logic.{_≢_}
 use Prim.Native.Nat.{ℕ}
 use native.Mathlib.Omega.{arith}
-use Rattle.sumlines.proofs.Sizes.{kept-sizes, kept-places}
+use Rattle.sumlines.proofs.Sizes.{kept-sizes, kept-ready}
 use Rattle.checking.proofs.Joined.{then-refused, then-fine, answer-refused, answer-same, sums-refused, sums-passed, sums-left, relation-side, reached-third, relations-are, past-laps}
 use Rattle.checking.proofs.check.judge_relations.Statement.{statement}
 use Rattle.checking.proofs.check.judge_relations.Tie as tie
@@ -33,7 +33,7 @@ judge-laps-requires : tie.Need-judge-laps-requires
 judge-laps-requires c κs =
     let s = c .before .before .before .before .before .before .before .before .before .before .before .before .before .before .before .before .before .before .before .before .before .before .before .before .before .before .before .before .before .before .before .before .before .before .before .before .before .before .before .before in
     let k = c .before .before .before .before .before .before .before .before .before .before .before .before .before .before .before .before .before .before .before .judge-sums .kept .1 .1 .1 .1 .1 .1 .1 .1 .1 .1 .1 .1 .1 .1 .1 in
-    (s .pre .0, (s .pre .1 .0, (reached-third _ _ _ _ (sums-left _ _ _ _ _ _ _ _ (c .before .before .before .before .before .before .before .r2 .given .1) (c .before .before .before .before .before .before .before .before .before .before .before .before .before .before .before .before .before .before .before .judge-sums .ensures .1) .0), (kept-places (s .pre .1 .1 .1 .0) (kept-sizes (k .0) (k .1 .0) (k .1 .1 .0) (k .1 .1 .1 .0) (k .1 .1 .1 .1 .0)), s .pre .1 .1 .1 .1))))
+    (s .pre .0, (s .pre .1 .0, (reached-third _ _ _ _ (sums-left _ _ _ _ _ _ _ _ (c .before .before .before .before .before .before .before .r2 .given .1) (c .before .before .before .before .before .before .before .before .before .before .before .before .before .before .before .before .before .before .before .judge-sums .ensures .1 .0) .0), (kept-ready (s .pre .1 .1 .1 .0) (kept-sizes (k .0) (k .1 .0) (k .1 .1 .0) (k .1 .1 .1 .0) (k .1 .1 .1 .1 .0)) (c .before .before .before .before .before .before .before .before .before .before .before .before .before .before .before .before .before .before .before .judge-sums .ensures .1 .1), s .pre .1 .1 .1 .1))))
 
 same-length : tie.Need-same-length
 same-length c = search needs
@@ -76,7 +76,7 @@ returns-2 c =
     let e = c .before .before .before .before .before .before .before .before .before .before .before .before .before .before .before .before .before .before .before .before .before .before .before .before .before .before .before .before .before .before .before .before .judge-sums .ensures in
     let q = c .before .before .before .before .before .before .before .before .before .before .before .before .before .before .before .before .before .before .before .before .r2 .given .1 in
     let d : _≢_ {A = ℕ} 2 3 = λ x. omega arith in
-    answer-same _ _ _ _ (c .before .before .before .before .before .before .before .before .before .before .before .before .judge-laps .ensures) (relations-are _ _ _ _ _ ∙ then-fine _ _ (sums-passed _ _ (e .0) _ _ q) ∙ past-laps 2 _ _ _ _ _ d (sums-left _ _ _ _ _ _ _ _ q (e .1) .1))
+    answer-same _ _ _ _ (c .before .before .before .before .before .before .before .before .before .before .before .before .judge-laps .ensures) (relations-are _ _ _ _ _ ∙ then-fine _ _ (sums-passed _ _ (e .0) _ _ q) ∙ past-laps 2 _ _ _ _ _ d (sums-left _ _ _ _ _ _ _ _ q (e .1 .0) .1))
 
 pub judge-relations-spec : {M : Type 1} → statement M
 judge-relations-spec =

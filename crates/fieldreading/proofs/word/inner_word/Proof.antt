@@ -1,72 +1,64 @@
--- `inner_word` reads what `wordThen` gives.
+-- `inner_word` reads what `wordThen` gives: `-` goes by itself, and every other word by its letters.
+use mathlib.Core.Path.{sym, _∙_}
+use Prim.Native.Nat.{_+_}
 use native.Mathlib.Omega.{arith}
 use borrow.Author.Needs.{needs}
+use borrow.Author.Tests.{eqb-true, eqb-false}
 use denote.Ref.{now}
+use Rattle.text.proofs.Cutting.{stop-end}
 use Rattle.text.specs.Answers.{seenWordAt, nextWord, spanWord}
-use Rattle.fieldreading.proofs.FieldReading.{word-end, word-wrong, word-some, word-length, seen-no-word, seen-word}
+use Rattle.fieldreading.proofs.FieldReading.{word-end}
+use Rattle.fieldreading.proofs.Fronts.{space-inside, dash-alone, dash-more}
 use Rattle.fieldreading.proofs.word.inner_word.Statement.{statement}
 use Rattle.fieldreading.proofs.word.inner_word.Tie as tie
 
-find-requires : tie.Need-find-requires
-find-requires c κs = search needs
-
 returns : tie.Need-returns
 unfolding seenWordAt nextWord spanWord
-returns c = (word-end _ _ _ (c .before .find .ensures .0) (c .if1 .taken), (omega arith, omega arith))
+returns c = (word-end _ _ _ (sym (stop-end 32 _ _ (c .if1 .taken))) (c .if1 .taken), (omega arith, omega arith))
 
-sub-read-word : tie.Need-sub-read-word
-sub-read-word c = search needs
+shared-slice-read-if2 : tie.Need-shared-slice-read-if2
+shared-slice-read-if2 c = search needs
 
-part-read-word-start : tie.Need-part-read-word-start
-part-read-word-start c = search needs
-
-part-read-word-end : tie.Need-part-read-word-end
-part-read-word-end c = search needs
-
-read-word-requires : tie.Need-read-word-requires
-read-word-requires c κs = search needs
-
-enum-told : tie.Need-enum-told
-enum-told c = search needs
-
-enum-known-n : tie.Need-enum-known-n
-enum-known-n c = search needs
-
-add-t12 : tie.Need-add-t12
-add-t12 c = search needs
+inner-letters-requires : tie.Need-inner-letters-requires
+inner-letters-requires c κs = search needs
 
 returns-2 : tie.Need-returns-2
-unfolding seenWordAt nextWord spanWord
-returns-2 c =
-    let c2 = c .before .before in
-    let c4 = c2 .before .before in
-    let c5 = c4 .before in
-    (word-wrong _ _ _ (c5 .find .ensures .0) (c4 .if1 .left) (seen-no-word _ _ _ (c .enum-told .given .1) (c2 .read-word .ensures .0)), (omega arith, omega arith))
+returns-2 c = search needs
+
+add-is-space-at : tie.Need-add-is-space-at
+add-is-space-at c = search needs
+
+is-space-at-requires : tie.Need-is-space-at-requires
+is-space-at-requires c κs = search needs
+
+add-t8 : tie.Need-add-t8
+add-t8 c = search needs
 
 returns-3 : tie.Need-returns-3
 unfolding seenWordAt nextWord spanWord
 returns-3 c =
-    let a = c .before .before .before .before .before .before .before .before .args in
-    let f = c .before .before .before .before .before .before .find .ensures in
-    let b = word-length (now (a .l)) (a .at) (c .before .before .before .before .before .before .find .result) _ _ (f .1 .1) (f .1 .0)
-    (c .before .n .given .1) (c .before .before .before .read-word .ensures .1) in (
-      word-some _ _ _ (f .0) _ (c .before .before .before .before .before .if1 .left) b
-          (seen-word _ _ _ _ (c .before .n .given .1) (c .before .before .before .read-word .ensures .0)),
-      (omega arith, omega (arith, f .1 .1, f .1 .0, b)),
+    let a = c .before .before .before .before .before .before .args in
+    let e = eqb-true _ _ (sym (c .before .is-space-at .ensures) ∙ c .if3 .taken) in (
+      dash-alone _ _ (c .before .before .before .before .if1 .left) (c .before .before .if2 .left) e,
+      (omega (arith, space-inside (now (a .l)) (a .at + 1) e), omega arith),
     )
+
+returns-4 : tie.Need-returns-4
+unfolding seenWordAt nextWord spanWord
+returns-4 c =
+    let e = eqb-false _ _ (sym (c .before .is-space-at .ensures) ∙ c .if3 .left) in
+    (dash-more _ _ (c .before .before .before .before .if1 .left) (c .before .before .if2 .left) e, (omega arith, omega arith))
 
 pub inner-word-spec : {M : Type 1} → statement M
 inner-word-spec =
     tie.close
     (tie.spec
-    find-requires
     returns
-    sub-read-word
-    part-read-word-start
-    part-read-word-end
-    read-word-requires
-    enum-told
-    enum-known-n
-    add-t12
+    shared-slice-read-if2
+    inner-letters-requires
     returns-2
-    returns-3)
+    add-is-space-at
+    is-space-at-requires
+    add-t8
+    returns-3
+    returns-4)

@@ -2,28 +2,28 @@
 use mathlib.Core.Path.{refl, ap, _∙_}
 use Prim.Native.Nat.{_+_, _-_, _≤_}
 use native.Mathlib.Omega.{arith}
-use lib.ListN.{length}
+use lib.ListN.{length, take, drop}
 use Rattle.field.specs.Field.{fieldOf}
 use Rattle.words.specs.Order.{wordOrder}
 use Rattle.algebra.specs.Poly.{scale, shift}
 use Rattle.algebra.specs.Written.{plus}
 use Rattle.working.specs.Working.{formula}
 use Rattle.working.specs.Polynomial.{polyAt}
-use Rattle.multiples.proofs.Adding.{Sizes, Adding, rest, rest-all, rest-next, rest-end, word-short, adding-next, adding-end}
+use Rattle.multiples.proofs.Adding.{Sizes, Adding, rest, rest-all, rest-next, rest-end, adding-next, adding-end}
 use borrow.Author.Needs.{needs}
 use Rattle.multiples.proofs.multiple.add_multiple.Statement.{statement}
 use Rattle.multiples.proofs.multiple.add_multiple.Tie as tie
 
 abbrev Inv-loop : tie.InvT-loop
-Inv-loop p x left gc gs gl bytes right c₀ l₀ w₀ o₀ n buf₀ j₀ k₀ c l w o buf j k =
+Inv-loop p x left lfrom a gc gs gl bytes right rfrom b c₀ l₀ w₀ o₀ n buf₀ j₀ k₀ c l w o buf j k =
     (j ≤ length gc)
     × (k ≤ n + j)
     × Sizes c₀ l₀ w₀ o₀ buf₀ c l w o buf
-    × Adding p c l w o k (rest (fieldOf p) x left right gc gs gl bytes j)
-    (plus (fieldOf p) wordOrder (formula c₀ l₀ w₀ o₀ n) (scale (fieldOf p) x (shift left right (polyAt gc gs gl bytes))))
+    × Adding p c l w o k (rest (fieldOf p) x (take a (drop lfrom left)) (take b (drop rfrom right)) gc gs gl bytes j)
+    (plus (fieldOf p) wordOrder (formula c₀ l₀ w₀ o₀ n) (scale (fieldOf p) x (shift (take a (drop lfrom left)) (take b (drop rfrom right)) (polyAt gc gs gl bytes))))
 
 abbrev μ-loop : tie.MeasureT-loop
-μ-loop p x left gc gs gl bytes right c₀ l₀ w₀ o₀ n buf₀ j₀ k₀ c l w o buf j k = length gc - j
+μ-loop p x left lfrom a gc gs gl bytes right rfrom b c₀ l₀ w₀ o₀ n buf₀ j₀ k₀ c l w o buf j k = length gc - j
 
 loop-holds : tie.Need-loop-holds Inv-loop μ-loop
 loop-holds c =
@@ -33,9 +33,9 @@ loop-holds c =
       search needs,
       record { coefs = refl; lens = refl; letters = refl; places = refl; word = refl },
       record {
-        working = z .pre .1 .1 .0;
+        working = z .pre .1 .1 .1 .1 .0;
         sum = ap (plus (fieldOf (a .p)) wordOrder _)
-            (rest-all (fieldOf (a .p)) (a .x) (a .left .now) (a .right .now) (a .gc .now) (a .gs .now) (a .gl .now) (a .bytes .now));
+            (rest-all (fieldOf (a .p)) (a .x) (take (a .a) (drop (a .lfrom) (a .left .now))) (take (a .b) (drop (a .rfrom) (a .right .now))) (a .gc .now) (a .gs .now) (a .gl .now) (a .bytes .now));
       },
     )
 
@@ -55,26 +55,26 @@ mul-requires c κs =
     let z = start i in
     let m = i .before .loop in
     let t = i .loop-test .taken in
-    (z .pre .0 .0, z .pre .0 .1, z .pre .1 .0 .small (m .j) t)
+    (z .pre .0 .0, z .pre .0 .1, z .pre .1 .1 .1 .0 .small (m .j) t)
 
 mul-compose : tie.Need-mul-compose Inv-loop μ-loop
 mul-compose c =
-    let same = start (c .before .before .before) .pre .1 .0 .starts in
+    let same = start (c .before .before .before) .pre .1 .1 .1 .0 .starts in
     search needs
 
 shared-slice-read-compose : tie.Need-shared-slice-read-compose Inv-loop μ-loop
 shared-slice-read-compose c =
-    let same = start (c .before .before .before .before) .pre .1 .0 .starts in
+    let same = start (c .before .before .before .before) .pre .1 .1 .1 .0 .starts in
     search needs
 
 mul-compose-2 : tie.Need-mul-compose-2 Inv-loop μ-loop
 mul-compose-2 c =
-    let same = start (c .before .before .before .before) .pre .1 .0 .lens in
+    let same = start (c .before .before .before .before) .pre .1 .1 .1 .0 .lens in
     search needs
 
 shared-slice-read-compose-2 : tie.Need-shared-slice-read-compose-2 Inv-loop μ-loop
 shared-slice-read-compose-2 c =
-    let same = start (c .before .before .before .before .before) .pre .1 .0 .lens in
+    let same = start (c .before .before .before .before .before) .pre .1 .1 .1 .0 .lens in
     search needs
 
 compose-requires : tie.Need-compose-requires Inv-loop μ-loop
@@ -83,34 +83,14 @@ compose-requires c κs =
     let z = start i in
     let m = i .before .loop in
     let t = i .loop-test .taken in
-    let short = z .pre .1 .0 .short (m .j) t in
-    let room = z .pre .1 .1 .1 .1 in
+    let short = z .pre .1 .1 .1 .0 .short (m .j) t in
+    let room = z .pre .1 .1 .1 .1 .1 .1 in
     let same = m .inv .2 .word in
-    (z .pre .1 .0 .inside (m .j) t, omega arith)
-
-sub-add-term : tie.Need-sub-add-term Inv-loop μ-loop
-sub-add-term c = search needs
-
-part-add-term-start : tie.Need-part-add-term-start Inv-loop μ-loop
-part-add-term-start c = search needs
-
-part-add-term-end : tie.Need-part-add-term-end Inv-loop μ-loop
-part-add-term-end c =
-    let b = c .before .before .before in
-    let i = b .before .before .before .before .before .before in
-    let z = start i in
-    let m = i .before .loop in
-    let t = i .loop-test .taken in
-    let size = b .compose .ensures .0 in
-    let kept = b .compose .kept .0 in
-    let short = z .pre .1 .0 .short (m .j) t in
-    let room = z .pre .1 .1 .1 .1 in
-    let same = m .inv .2 .word in
-    omega arith
+    ((z .pre .1 .0 .0, short, z .pre .1 .1 .0 .0, omega arith), (z .pre .1 .0 .1, z .pre .1 .1 .1 .0 .inside (m .j) t, z .pre .1 .1 .0 .1))
 
 add-term-requires : tie.Need-add-term-requires Inv-loop μ-loop
 add-term-requires c κs =
-    let b = c .before .before .before .before .before .before .before .before in
+    let b = c .before .before .before .before .before .before .before in
     let y = b .before .before .before .before in
     let i = y .before .before in
     let z = start i in
@@ -118,22 +98,28 @@ add-term-requires c κs =
     let t = i .loop-test .taken in
     let size = b .compose .ensures .0 in
     let kept = b .compose .kept .0 in
-    let short = z .pre .1 .0 .short (m .j) t in
-    let room = z .pre .1 .1 .1 in
+    let short = z .pre .1 .1 .1 .0 .short (m .j) t in
+    let left = z .pre .1 .0 .0 in
+    let right = z .pre .1 .1 .0 .0 in
+    let room = z .pre .1 .1 .1 .1 .1 in
     let less = m .inv .1 in
-    let same = m .inv .2 in
-    let word = word-short (b .compose .result) (b .compose .last .0) (omega arith) (let r = room .1 in let s = same .word in omega arith) in
-    ((z .pre .0 .0, y .mul .ensures .1, z .pre .0 .2), ((word, let r = room .0 in let s = same .places in omega arith), m .inv .3 .working))
+    let same = m .inv .2 in (
+      (z .pre .0 .0, y .mul .ensures .1, z .pre .0 .2),
+      (
+        (omega arith, let r = room .1 in let s = same .word in omega arith, let r = room .0 in let s = same .places in omega arith),
+        m .inv .3 .working,
+      ),
+    )
 
 add-j : tie.Need-add-j Inv-loop μ-loop
 add-j c =
     let d = c .before .before .before .before .before .before .before .before in
-    let b = d .before .before .before .before .before .before .before .before .before in
+    let b = d .before .before .before .before .before .before .before .before in
     let i = b .before .before .before .before .before .before in
     let z = start i in
     let m = i .before .loop in
     let t = i .loop-test .taken in
-    let g = z .good in
+    let g = z .good .1 .1 .1 .1 .1 in
     record { fits = omega arith }
 
 loop-less : tie.Need-loop-less Inv-loop μ-loop
@@ -142,7 +128,7 @@ loop-less c = search needs
 loop-again : tie.Need-loop-again Inv-loop μ-loop
 loop-again c =
     let d = c .before .before .before .before .before .before .before .before in
-    let b = d .before .before .before .before .before .before .before .before .before in
+    let b = d .before .before .before .before .before .before .before .before in
     let y = b .before .before .before .before in
     let i = y .before .before in
     let z = start i in
@@ -150,9 +136,9 @@ loop-again c =
     let t = i .loop-test .taken in
     let a = z .args in
     let same = m .inv .2 in
-    let kept = d .add-term .kept .1 .1 .1 in
+    let kept = d .add-term .kept .1 .1 .1 .1 in
     let e = d .add-term .ensures in
-    let next = rest-next (fieldOf (a .p)) (a .x) (a .left .now) (a .right .now) (a .gc .now) (a .gs .now) (a .gl .now) (a .bytes .now)
+    let next = rest-next (fieldOf (a .p)) (a .x) (take (a .a) (drop (a .lfrom) (a .left .now))) (take (a .b) (drop (a .rfrom) (a .right .now))) (a .gc .now) (a .gs .now) (a .gl .now) (a .bytes .now)
     (m .j) (y .mul .result) (b .compose .result) (b .compose .last .0) t (y .mul .ensures .0) (b .compose .ensures .1) in (
       omega arith,
       let q = e .0 in let r = m .inv .1 in omega arith,
@@ -189,7 +175,7 @@ returns c =
     let less = m .loop .inv .1 in
     let most = m .loop .inv .0 in
     let adding = m .loop .inv .3 in
-    let all = rest-end (fieldOf (a .p)) (a .x) (a .left .now) (a .right .now) (a .gc .now) (a .gs .now) (a .gl .now) (a .bytes .now) (m .loop .j) (c .loop-test .left) in
+    let all = rest-end (fieldOf (a .p)) (a .x) (take (a .a) (drop (a .lfrom) (a .left .now))) (take (a .b) (drop (a .rfrom) (a .right .now))) (a .gc .now) (a .gs .now) (a .gl .now) (a .bytes .now) (m .loop .j) (c .loop-test .left) in
     (omega arith, (adding .working, adding-end _ _ _ _ _ _ _ _ adding all))
 
 pub add-multiple-spec : {M : Type 1} → statement M
@@ -207,9 +193,6 @@ add-multiple-spec =
     mul-compose-2
     shared-slice-read-compose-2
     compose-requires
-    sub-add-term
-    part-add-term-start
-    part-add-term-end
     add-term-requires
     add-j
     loop-less

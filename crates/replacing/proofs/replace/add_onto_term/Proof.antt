@@ -2,7 +2,7 @@
 use mathlib.Core.Path.{_≡_, sym, _∙_}
 use Prim.Native.Nat.{ℕ, _+_, _-_, _≤_, _<_}
 use native.Mathlib.Omega.{arith}
-use lib.ListN.{length, getD}
+use lib.ListN.{getD, take, drop}
 use Rattle.working.proofs.Numbered.{PartOf, between-length, part-of, part-given, numbered}
 use Rattle.replacing.proofs.LeadingTerm.{has-term, onto-working, onto-sum}
 use borrow.Author.Needs.{needs}
@@ -17,38 +17,38 @@ abbrev next : tie.Start → ℕ
 next s = getD (s .args .firsts .now) (s .args .base + (s .args .of - 1) + 1) 0
 
 part : (s : tie.Start) → PartOf (s .args .coefs .now) (s .args .starts .now) (s .args .lens .now) (s .args .m) (first s) (next s)
-part s = part-of (s .pre .1 .1 .0) (s .pre .1 .1 .1 .0) (s .args .of) (s .pre .1 .0 .0) (s .pre .1 .0 .1)
+part s = part-of (s .pre .1 .1 .1 .1 .0) (s .pre .1 .1 .1 .1 .1 .0) (s .args .of) (s .pre .1 .0 .0) (s .pre .1 .0 .1)
 
 some : (s : tie.Start) → first s < next s
 some s =
     let q = part s in
     has-term (s .args .coefs .now) (s .args .starts .now) (s .args .lens .now) (s .args .bytes .now) (first s) (next s) (q .rises) (q .in-coefs)
-    (λ e. s .pre .1 .1 .1 .1 .1 .1 .1 .some
+    (λ e. s .pre .1 .1 .1 .1 .1 .1 .1 .1 .1 .some
     (sym (numbered (s .args .coefs .now) (s .args .starts .now) (s .args .lens .now) (s .args .bytes .now) (s .args .firsts .now) (s .args .base) (s .args .count) (s .args .of) (s .pre .1 .0 .0) (s .pre .1 .0 .1)) ∙ e))
 
 sub-g : tie.Need-sub-g
 sub-g c = search needs
 
-add-a : tie.Need-add-a
-add-a c = search needs
+add-first : tie.Need-add-first
+add-first c = search needs
 
-mul-a : tie.Need-mul-a
-mul-a c = search needs
+mul-first : tie.Need-mul-first
+mul-first c = search needs
 
-shared-slice-read-a : tie.Need-shared-slice-read-a
-shared-slice-read-a c = search needs
+shared-slice-read-first : tie.Need-shared-slice-read-first
+shared-slice-read-first c = search needs
 
-add-b : tie.Need-add-b
-add-b c = search needs
+add-next : tie.Need-add-next
+add-next c = search needs
 
-add-b-2 : tie.Need-add-b-2
-add-b-2 c = search needs
+add-next-2 : tie.Need-add-next-2
+add-next-2 c = search needs
 
-mul-b : tie.Need-mul-b
-mul-b c = search needs
+mul-next : tie.Need-mul-next
+mul-next c = search needs
 
-shared-slice-read-b : tie.Need-shared-slice-read-b
-shared-slice-read-b c = search needs
+shared-slice-read-next : tie.Need-shared-slice-read-next
+shared-slice-read-next c = search needs
 
 mul-mul : tie.Need-mul-mul
 mul-mul c =
@@ -66,12 +66,12 @@ mul-requires : tie.Need-mul-requires
 mul-requires c κs =
     let s = c .before .before .before .before .before .before .before .before .before .before .before .before .before .before .before in
     let q = part s in
-    (s .pre .0 .0, s .pre .0 .1, s .pre .1 .1 .0 .small (first s) (omega (arith, some s, q .most)))
+    (s .pre .0 .0, s .pre .0 .1, s .pre .1 .1 .1 .1 .0 .small (first s) (omega (arith, some s, q .most)))
 
 add-onto-requires : tie.Need-add-onto-requires
 add-onto-requires c κs =
     let s = c .before .before .before .before .before .before .before .before .before .before .before .before .before .before .before .before .before .before .before .before in
-    ((s .pre .0 .0, c .before .before .before .before .mul .ensures .1, s .pre .0 .2), (s .pre .1 .1 .1 .1 .1 .1 .0, s .pre .1 .1 .1 .1 .0))
+    ((s .pre .0 .0, c .before .before .before .before .mul .ensures .1, s .pre .0 .2), (s .pre .1 .1 .1 .1 .1 .1 .1 .1 .0, s .pre .1 .1 .1 .1 .1 .1 .0))
 
 add-e : tie.Need-add-e
 add-e c =
@@ -84,7 +84,7 @@ mul-add-multiple : tie.Need-mul-add-multiple
 mul-add-multiple c =
     let s = c .before .before .before .before .before .before .before .before .before .before .before .before .before .before .before .before .before .before .before .before .before .before .before .before .before in
     let q = part s in
-    omega (arith, some s, q .most, q .in-coefs, q .in-starts, q .in-lens)
+    omega (arith, s .good .1 .1 .1 .1 .1 .1 .1 .1 .1, some s, q .most, q .in-coefs, q .in-starts, q .in-lens)
 
 sub-add-multiple : tie.Need-sub-add-multiple
 sub-add-multiple c =
@@ -108,7 +108,7 @@ mul-add-multiple-2 : tie.Need-mul-add-multiple-2
 mul-add-multiple-2 c =
     let s = c .before .before .before .before .before .before .before .before .before .before .before .before .before .before .before .before .before .before .before .before .before .before .before .before .before .before in
     let q = part s in
-    omega (arith, some s, q .most, q .in-coefs, q .in-starts, q .in-lens)
+    omega (arith, s .good .1 .1 .1 .1 .1 .1 .1 .1 .1, some s, q .most, q .in-coefs, q .in-starts, q .in-lens)
 
 sub-add-multiple-2 : tie.Need-sub-add-multiple-2
 sub-add-multiple-2 c =
@@ -132,7 +132,7 @@ mul-add-multiple-3 : tie.Need-mul-add-multiple-3
 mul-add-multiple-3 c =
     let s = c .before .before .before .before .before .before .before .before .before .before .before .before .before .before .before .before .before .before .before .before .before .before .before .before .before .before .before in
     let q = part s in
-    omega (arith, some s, q .most, q .in-coefs, q .in-starts, q .in-lens)
+    omega (arith, s .good .1 .1 .1 .1 .1 .1 .1 .1 .1, some s, q .most, q .in-coefs, q .in-starts, q .in-lens)
 
 sub-add-multiple-3 : tie.Need-sub-add-multiple-3
 sub-add-multiple-3 c =
@@ -159,21 +159,25 @@ add-multiple-requires c κs =
     let q = part s in
     let z = numbered (s .args .coefs .now) (s .args .starts .now) (s .args .lens .now) (s .args .bytes .now) (s .args .firsts .now) (s .args .base) (s .args .count) (s .args .of) (s .pre .1 .0 .0) (s .pre .1 .0 .1) in
     let e = between-length (s .args .coefs .now) (first s + 1) (next s) (omega (arith, some s)) (q .in-coefs) in
-    let u = s .pre .1 .0 .2 in
-    let v = s .pre .1 .0 .3 in
-    let room = s .pre .1 .1 .1 .1 .1 .0 in (
+    let room = s .pre .1 .1 .1 .1 .1 .1 .1 .0 in (
       s .pre .0,
       (
-        part-given (s .pre .1 .1 .0) _ _ (length (s .args .left .now) + length (s .args .right .now)) (omega (arith, some s)) (q .most) (omega arith),
+        s .pre .1 .1 .0,
         (
-          onto-working (s .args .p) (s .pre .0 .2) (s .args .coefs .now) (s .args .starts .now) (s .args .lens .now) (s .args .bytes .now) (first s) (next s) (q .rises) (q .in-coefs) (q .in-starts) (q .in-lens) _ z (s .args .left .now) (s .args .right .now) (s .args .c .now) (s .args .l .now) (s .args .w .now) (s .args .o .now) (s .args .n) (s .args .k) (s .pre .1 .1 .1 .1 .0) (s .pre .1 .1 .1 .1 .1 .1 .0) (s .pre .1 .1 .1 .1 .1 .1 .1) (s .args .x) _ (c .before .before .before .before .before .before .before .before .before .before .before .before .before .before .before .before .before .mul .ensures .0) _ _ _ (a .ensures .1 .0) (a .ensures .1 .1),
-          (omega (arith, e, a .ensures .0, q .few, room .0, a .kept .1 .1 .1 .1 .1 .0), room .1),
+          s .pre .1 .1 .1 .0,
+          (
+            part-given (s .pre .1 .1 .1 .1 .0) _ _ (omega (arith, some s)) (q .most),
+            (
+              onto-working (s .args .p) (s .pre .0 .2) (s .args .coefs .now) (s .args .starts .now) (s .args .lens .now) (s .args .bytes .now) (first s) (next s) (q .rises) (q .in-coefs) (q .in-starts) (q .in-lens) _ z (take (s .args .a) (drop (s .args .lfrom) (s .args .left .now))) (take (s .args .b) (drop (s .args .rfrom) (s .args .right .now))) (s .args .c .now) (s .args .l .now) (s .args .w .now) (s .args .o .now) (s .args .n) (s .args .k) (s .pre .1 .1 .1 .1 .1 .1 .0) (s .pre .1 .1 .1 .1 .1 .1 .1 .1 .0) (s .pre .1 .1 .1 .1 .1 .1 .1 .1 .1) (s .args .x) _ (c .before .before .before .before .before .before .before .before .before .before .before .before .before .before .before .before .before .mul .ensures .0) _ _ _ (a .ensures .1 .0) (a .ensures .1 .1),
+              (omega (arith, e, a .ensures .0, q .few, room .0, a .kept .1 .1 .1 .1 .1 .0), room .1),
+            ),
+          ),
         ),
       ),
     )
 
 same-length : tie.Need-same-length
-same-length c = c .before .before .before .before .before .before .before .before .before .before .add-multiple .kept .1 .1 .1 .1 .1 .1 .1 .1 .0 ∙ c .before .before .before .before .before .before .before .before .before .before .before .before .before .before .before .before .before .before .before .before .before .before .before .add-onto .kept .1 .1 .0
+same-length c = c .before .before .before .before .before .before .before .before .before .before .add-multiple .kept .1 .1 .1 .1 .1 .1 .1 .1 .1 .1 .1 .1 .0 ∙ c .before .before .before .before .before .before .before .before .before .before .before .before .before .before .before .before .before .before .before .before .before .before .before .add-onto .kept .1 .1 .0
 
 same-length-2 : tie.Need-same-length-2
 same-length-2 c = search needs
@@ -182,7 +186,7 @@ same-length-3 : tie.Need-same-length-3
 same-length-3 c = search needs
 
 same-length-4 : tie.Need-same-length-4
-same-length-4 c = c .before .before .before .before .before .before .before .before .before .before .add-multiple .kept .1 .1 .1 .1 .1 .1 .1 .1 .1 .1 .1 .0 ∙ c .before .before .before .before .before .before .before .before .before .before .before .before .before .before .before .before .before .before .before .before .before .before .before .add-onto .kept .1 .1 .1 .1 .1 .0
+same-length-4 c = c .before .before .before .before .before .before .before .before .before .before .add-multiple .kept .1 .1 .1 .1 .1 .1 .1 .1 .1 .1 .1 .1 .1 .1 .1 .0 ∙ c .before .before .before .before .before .before .before .before .before .before .before .before .before .before .before .before .before .before .before .before .before .before .before .add-onto .kept .1 .1 .1 .1 .1 .0
 
 same-length-5 : tie.Need-same-length-5
 same-length-5 c = search needs
@@ -196,7 +200,7 @@ returns c =
     let z = numbered (s .args .coefs .now) (s .args .starts .now) (s .args .lens .now) (s .args .bytes .now) (s .args .firsts .now) (s .args .base) (s .args .count) (s .args .of) (s .pre .1 .0 .0) (s .pre .1 .0 .1) in
     let e = between-length (s .args .coefs .now) (first s + 1) (next s) (omega (arith, some s)) (q .in-coefs) in (
       omega (arith, e, m .ensures .0, a .ensures .0, q .few),
-      (m .ensures .1 .0, m .ensures .1 .1 ∙ onto-sum (s .args .p) (s .pre .0 .2) (s .args .coefs .now) (s .args .starts .now) (s .args .lens .now) (s .args .bytes .now) (first s) (next s) (q .rises) (q .in-coefs) (q .in-starts) (q .in-lens) _ z (s .args .left .now) (s .args .right .now) (s .args .c .now) (s .args .l .now) (s .args .w .now) (s .args .o .now) (s .args .n) (s .args .k) (s .pre .1 .1 .1 .1 .0) (s .pre .1 .1 .1 .1 .1 .1 .0) (s .pre .1 .1 .1 .1 .1 .1 .1) (s .args .x) _ (c .before .before .before .before .before .before .before .before .before .before .before .before .before .before .before .before .before .before .before .before .before .before .before .before .before .before .before .before .mul .ensures .0) _ _ _ (a .ensures .1 .0) (a .ensures .1 .1)),
+      (m .ensures .1 .0, m .ensures .1 .1 ∙ onto-sum (s .args .p) (s .pre .0 .2) (s .args .coefs .now) (s .args .starts .now) (s .args .lens .now) (s .args .bytes .now) (first s) (next s) (q .rises) (q .in-coefs) (q .in-starts) (q .in-lens) _ z (take (s .args .a) (drop (s .args .lfrom) (s .args .left .now))) (take (s .args .b) (drop (s .args .rfrom) (s .args .right .now))) (s .args .c .now) (s .args .l .now) (s .args .w .now) (s .args .o .now) (s .args .n) (s .args .k) (s .pre .1 .1 .1 .1 .1 .1 .0) (s .pre .1 .1 .1 .1 .1 .1 .1 .1 .0) (s .pre .1 .1 .1 .1 .1 .1 .1 .1 .1) (s .args .x) _ (c .before .before .before .before .before .before .before .before .before .before .before .before .before .before .before .before .before .before .before .before .before .before .before .before .before .before .before .before .mul .ensures .0) _ _ _ (a .ensures .1 .0) (a .ensures .1 .1)),
     )
 
 pub add-onto-term-spec : {M : Type 1} → statement M
@@ -204,13 +208,13 @@ add-onto-term-spec =
     tie.close
     (tie.spec
     sub-g
-    add-a
-    mul-a
-    shared-slice-read-a
-    add-b
-    add-b-2
-    mul-b
-    shared-slice-read-b
+    add-first
+    mul-first
+    shared-slice-read-first
+    add-next
+    add-next-2
+    mul-next
+    shared-slice-read-next
     mul-mul
     shared-slice-read-mul
     mul-requires

@@ -15,33 +15,15 @@ use Rattle.shortform.proofs.loading.load.Tie as tie
 start-requires : tie.Need-start-requires
 start-requires c κs = search needs
 
-sub-add-multiple : tie.Need-sub-add-multiple
-sub-add-multiple c = search needs
-
-part-add-multiple-start : tie.Need-part-add-multiple-start
-part-add-multiple-start c = search needs
-
-part-add-multiple-end : tie.Need-part-add-multiple-end
-part-add-multiple-end c = search needs
-
-sub-add-multiple-2 : tie.Need-sub-add-multiple-2
-sub-add-multiple-2 c = search needs
-
-part-add-multiple-start-2 : tie.Need-part-add-multiple-start-2
-part-add-multiple-start-2 c = search needs
-
-part-add-multiple-end-2 : tie.Need-part-add-multiple-end-2
-part-add-multiple-end-2 c = search needs
-
 add-multiple-requires : tie.Need-add-multiple-requires
 add-multiple-requires c κs =
-    let t = c .before .before .before .before .before .before .before .before .before in
+    let t = c .before .before .before .before .before .before .before in
     let z = t .before .before .before .before .before .before .before .before .before .before .before in
     let k = t .start .kept .0 in
     let fits = z .pre .1 .1 .1 .1 .0 in
     let laws = z .pre .0 .1 in
     let none = working-none (z .args .p) (z .args .c .now) (z .args .l .now) (z .args .w .now) (t .start .last .0) (t .start .ensures _ _ _ (rw k (z .pre .1 .1 .1 .0))) in
-    ((z .pre .0 .0, one-below (z .args .p) laws, laws), (z .pre .1 .0, (none, (omega arith, z .pre .1 .1 .1 .1 .1))))
+    ((z .pre .0 .0, one-below (z .args .p) laws, laws), ((omega arith, omega arith), ((omega arith, omega arith), (z .pre .1 .0, (none, (omega arith, z .pre .1 .1 .1 .1 .1))))))
 
 same-length : tie.Need-same-length
 same-length c = search needs
@@ -62,7 +44,7 @@ returns : tie.Need-returns
 unfolding terms
 returns c =
     let t = c .before .before .before .before .before .before .before .before .before .before in
-    let z = t .before .before .before .before .before .before .before .before .before .before .before .before .before .before .before .before .before .before .before .before .before in
+    let z = t .before .before .before .before .before .before .before .before .before .before .before .before .before .before .before .before .before .before .before in
     let e = t .add-multiple .ensures .1 .1 ∙ loaded (z .pre .0 .1) word-order-admissible (z .pre .1 .1 .0) in
     let n = sym (terms-length _ 0 (t .add-multiple .result)) ∙ ap (λ (f : Poly). length f) e ∙ terms-length _ 0 (length (z .args .fc .now)) in
     (n, (t .add-multiple .ensures .1 .0, e))
@@ -72,12 +54,6 @@ load-spec =
     tie.close
     (tie.spec
     start-requires
-    sub-add-multiple
-    part-add-multiple-start
-    part-add-multiple-end
-    sub-add-multiple-2
-    part-add-multiple-start-2
-    part-add-multiple-end-2
     add-multiple-requires
     same-length
     same-length-2

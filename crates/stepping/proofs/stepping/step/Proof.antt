@@ -8,7 +8,7 @@ use Rattle.working.specs.Working.{termAt, formula}
 use Rattle.working.specs.Change.{single}
 use Rattle.working.proofs.Terms.{terms-length, terms-at}
 use Rattle.shortform.specs.Search.{termOf}
-use Rattle.stepping.proofs.StepParts.{StepAt, coef-below, front-length, step-at, step-sum, lead-place}
+use Rattle.stepping.proofs.StepParts.{StepAt, coef-below, step-at, step-sum, lead-place}
 use borrow.Author.Needs.{needs}
 use Rattle.stepping.proofs.stepping.step.Statement.{statement}
 use Rattle.stepping.proofs.stepping.step.Tie as tie
@@ -73,7 +73,7 @@ copy-part-requires c κs =
     let short = s .short in
     let hi = t .read-term .ensures .0 .1 in
     let room = z .pre .1 .1 .1 .1 .1 .0 .0 in
-    (omega arith, omega arith, omega arith)
+    (omega arith, omega arith, omega arith, room)
 
 copy-part-requires-2 : tie.Need-copy-part-requires-2
 copy-part-requires-2 c κs =
@@ -86,7 +86,7 @@ copy-part-requires-2 c κs =
     let hi = t .read-term .ensures .0 .1 in
     let room = z .pre .1 .1 .1 .1 .1 .0 .1 in
     let q = d .lead-len .ensures in
-    (omega arith, omega arith, omega arith)
+    (omega arith, omega arith, omega arith, room)
 
 neg-requires : tie.Need-neg-requires
 neg-requires c κs =
@@ -94,27 +94,9 @@ neg-requires c κs =
     let z = start t in
     (z .pre .0 .0, coef-below (z .args .p) (z .args .c .now) (z .args .l .now) (z .args .w .now) (z .args .o .now) (z .args .n) (z .args .k) _ _ (z .pre .1 .1 .0) (z .pre .1 .1 .1 .1 .0 .0) (t .read-term .ensures .1))
 
-sub-add-onto-term : tie.Need-sub-add-onto-term
-sub-add-onto-term c = search needs
-
-part-add-onto-term-start : tie.Need-part-add-onto-term-start
-part-add-onto-term-start c = search needs
-
-part-add-onto-term-end : tie.Need-part-add-onto-term-end
-part-add-onto-term-end c = search needs
-
-sub-add-onto-term-2 : tie.Need-sub-add-onto-term-2
-sub-add-onto-term-2 c = search needs
-
-part-add-onto-term-start-2 : tie.Need-part-add-onto-term-start-2
-part-add-onto-term-start-2 c = search needs
-
-part-add-onto-term-end-2 : tie.Need-part-add-onto-term-end-2
-part-add-onto-term-end-2 c = search needs
-
 add-onto-term-requires : tie.Need-add-onto-term-requires
 add-onto-term-requires c κs =
-    let y = c .before .before .before .before .before .before .before .before .before in
+    let y = c .before .before .before .before .before .before .before in
     let r = y .before .before .before in
     let l = r .before .before .before .before .before in
     let d = l .before .before .before in
@@ -124,10 +106,11 @@ add-onto-term-requires c κs =
     let fits = s .fits in
     let short = s .short in
     let q = d .lead-len .ensures in
-    let a = l .copy-part .ensures .0 .0 in
-    let u = r .copy-part2 .ensures .0 .0 in
-    let x = front-length (l .copy-part .result) (l .copy-part .last .0) in
-    let v = front-length (r .copy-part2 .result) (r .copy-part2 .last .0) in
+    let a = l .copy-part .ensures .0 in
+    let u = r .copy-part2 .ensures .0 in
+    let x = l .copy-part .kept .0 in
+    let v = r .copy-part2 .kept .0 in
+    let (lroom, rroom, broom) = z .pre .1 .1 .1 .1 .1 .0 in
     let inside = z .pre .1 .1 .1 .1 .0 .0 in
     let word = ap (λ (x : Term). x .word) (terms-at (termAt (z .args .c .now) (z .args .l .now) (z .args .w .now) (z .args .o .now)) (z .args .n) (z .args .k) (single 0 []) inside) in
     let place = lead-place (z .args .p) (z .args .coefs .now) (z .args .starts .now) (z .args .lens .now) (z .args .bytes .now) (z .args .firsts .now) (z .args .base) (z .args .count) (z .args .m)
@@ -136,8 +119,14 @@ add-onto-term-requires c κs =
     (l .copy-part .result) (r .copy-part2 .result) (l .copy-part .last .0) (r .copy-part2 .last .0) (l .copy-part .ensures .1) (r .copy-part2 .ensures .1) (z .args .l .now) (z .args .w .now) _ word in (
       (z .pre .0 .0, y .neg .ensures .1, z .pre .0 .1),
       (
-        (s .leading .low, s .leading .high, omega arith, omega arith),
-        (z .pre .1 .0 .terms, (z .pre .1 .0 .runs, (z .pre .1 .1 .0, ((z .pre .1 .1 .1 .1 .0 .1, z .pre .1 .1 .1 .1 .1 .0 .2), (inside, place))))),
+        (s .leading .low, s .leading .high),
+        (
+          (omega arith, omega arith),
+          (
+            (omega arith, omega arith),
+            (z .pre .1 .0 .terms, (z .pre .1 .0 .runs, (z .pre .1 .1 .0, ((z .pre .1 .1 .1 .1 .0 .1, broom), (inside, place))))),
+          ),
+        ),
       ),
     )
 
@@ -165,7 +154,7 @@ same-length-7 c = search needs
 returns : tie.Need-returns
 returns c =
     let a = c .before .before .before .before .before .before .before .before .before .before in
-    let y = a .before .before .before .before .before .before .before .before .before .before in
+    let y = a .before .before .before .before .before .before .before .before in
     let r = y .before .before .before in
     let l = r .before .before .before .before .before in
     let d = l .before .before .before in
@@ -189,12 +178,6 @@ step-spec =
     copy-part-requires
     copy-part-requires-2
     neg-requires
-    sub-add-onto-term
-    part-add-onto-term-start
-    part-add-onto-term-end
-    sub-add-onto-term-2
-    part-add-onto-term-start-2
-    part-add-onto-term-end-2
     add-onto-term-requires
     same-length
     same-length-2

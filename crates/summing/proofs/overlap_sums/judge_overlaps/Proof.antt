@@ -18,10 +18,10 @@ use Rattle.working.specs.Family.{familyAt}
 use Rattle.working.proofs.Terms.{terms-length}
 use Rattle.acceptance.specs.Check.{overlapsJudged}
 use Rattle.summing.specs.Judged.{verdictOf}
-use Rattle.sumlines.specs.Room.{Places}
+use Rattle.sumlines.specs.Room.{Ready}
 use Rattle.sumlines.specs.Lines.{sumsAt, LineFits}
 use Rattle.overlapwords.specs.OverlapPlaces.{cursorOf}
-use Rattle.sumlines.proofs.Sizes.{Sizes, kept-sizes, same-sizes, then-sizes, kept-places}
+use Rattle.sumlines.proofs.Sizes.{Sizes, kept-sizes, same-sizes, then-sizes, kept-places, kept-ready}
 use Rattle.summing.proofs.NextLine.{next-fits, next-low, next-further}
 use Rattle.overlapwords.proofs.OverlapWalk.{Walked, walk-start, walk-small, walk-placed, walk-less, walk-next}
 use Rattle.overlapwords.proofs.OverlapTexts.{under-is}
@@ -46,7 +46,7 @@ abbrev Inv-items : tie.InvT-items
 Inv-items h heads headlens coefs starts lens bytes firsts base count m from first c₀ l₀ w₀ o₀ buf₀ lap₀ at₀ line₀ i₀ answer₀ f₀ c l w o buf lap at line i answer f =
     (length lap ≡ length lap₀)
     × Sizes c₀ l₀ w₀ o₀ buf₀ c l w o buf
-    × Places c l w o buf
+    × Ready c l w o buf
     × Walked headlens count i f
     × OverlapsDone h bytes (family (familyAt coefs starts lens bytes firsts base count)) (laidWords heads headlens bytes count)
     (overlapsJudged (fieldOf (h .p)) wordOrder (family (familyAt coefs starts lens bytes firsts base count)) (sumsAt bytes from first) (overlaps (laidWords heads headlens bytes count)) 1)
@@ -138,7 +138,7 @@ is-under-requires c κs =
     let d = c .before .before .before .before .before .before .before .before .before .before .before .before .before .before .before .before .before .before .before .start-difference .kept .1 .1 .1 .1 .1 .1 .1 .1 .1 .1 .1 .1 in
     let sd = kept-sizes (d .0) (d .1 .0) (d .1 .1 .0) (d .1 .1 .1 .0) (d .1 .1 .1 .1 .0) in
     let ft = subst (λ k. LineFits (s .args .h .p) (s .args .bytes .now) k (x .s)) (sym (v .count)) (next-fits _ _ _ _ _ _ _ (x .inv .4 .next) q) in
-    let pl = kept-places (y .inv .2) (then-sizes sd (x .inv .2)) in
+    let pl = kept-places (y .inv .2 .places) (then-sizes sd (x .inv .2)) in
     (hs .laid, (hs .short, (ft, (pl .buffer, omega (arith, c .before .before .before .before .before .before .before .put-overlap .ensures .0, c .before .before .before .before .before .before .before .put-overlap .kept .1 .1 .1 .1 .1 .0, y .inv .0, b .1)))))
 
 take-line-requires : tie.Need-take-line-requires Inv-loop μ-loop Inv-items μ-items
@@ -156,7 +156,7 @@ take-line-requires c κs =
     let sd = kept-sizes (d .0) (d .1 .0) (d .1 .1 .0) (d .1 .1 .1 .0) (d .1 .1 .1 .1 .0) in
     let ft = subst (λ k. LineFits (s .args .h .p) (s .args .bytes .now) k (x .s)) (sym (v .count)) (next-fits _ _ _ _ _ _ _ (x .inv .4 .next) q) in
     let iu = c .before .before .before .before .before .before .before .before .is-under .kept .1 .1 .1 .1 .1 .1 .1 .1 .0 in
-    let pl = kept-places (y .inv .2) (then-sizes sd (x .inv .2)) in
+    let pl = kept-places (y .inv .2 .places) (then-sizes sd (x .inv .2)) in
     let pb = pl .buffer in
     let pm = pl .many in
     let n = x .inv .0 in
@@ -243,7 +243,7 @@ items-again c =
     let e = c .overlap-behind .ensures in (
       c .before .before .before .before .before .before .before .put-overlap .kept .1 .1 .1 .1 .1 .0 ∙ y .inv .0,
       then-sizes (y .inv .1) (then-sizes sd (x .inv .2)),
-      kept-places (y .inv .2) (then-sizes sd (x .inv .2)),
+      kept-ready (y .inv .2) (then-sizes sd (x .inv .2)) (x .inv .3 .holds .arranged),
       walk-next _ _ (hs .short) (b .0) _ _ wk p _ (e .1 .0) (e .1 .1),
       lap-end _ _ _ _ _ _ _ _ _ _ _ (x .inv .4) (c .before .before .loop-test .left) (x .c) (x .l) (x .w) (x .o) (x .n) refl (c .before .if3 .left) _ (e .0) _ (ap verdictOf (x .inv .1) ∙ y .inv .4 .told),
     )

@@ -9,9 +9,9 @@ use Rattle.working.specs.Working.{termAt, formula, Working}
 use Rattle.working.specs.Family.{familyAt}
 use Rattle.working.proofs.Terms.{terms-length}
 use Rattle.summing.specs.Judged.{verdictOf, LeftBehind}
-use Rattle.sumlines.specs.Room.{Places}
+use Rattle.sumlines.specs.Room.{Ready}
 use Rattle.sumlines.specs.Lines.{sumsAt, LineFits}
-use Rattle.sumlines.proofs.Sizes.{Sizes, kept-sizes, same-sizes, then-sizes, kept-places, family-length, family-end}
+use Rattle.sumlines.proofs.Sizes.{Sizes, kept-sizes, same-sizes, then-sizes, kept-places, kept-ready, family-length, family-end}
 use Rattle.summing.proofs.NextLine.{next-fits, next-low, next-further}
 use Rattle.summing.proofs.SumsJudging.{ItemsDone, LinesDone, items-start, lines-start, lines-over, lines-next, lines-wrong, lines-end, items-end}
 use Rattle.summing.proofs.sums.judge_sums.Statement.{statement}
@@ -32,7 +32,7 @@ abbrev Inv-items : tie.InvT-items
 Inv-items h number kind coefs starts lens bytes firsts tbase tcount obase ocount m from first c₀ l₀ w₀ o₀ buf₀ at₀ line₀ g₀ answer₀ c l w o buf at line g answer =
     (g ≤ tcount)
     × Sizes c₀ l₀ w₀ o₀ buf₀ c l w o buf
-    × Places c l w o buf
+    × Ready c l w o buf
     × ItemsDone h number kind bytes (family (familyAt coefs starts lens bytes firsts obase ocount)) (familyAt coefs starts lens bytes firsts tbase tcount) (sumsAt bytes from first)
     at line g answer
 
@@ -53,8 +53,7 @@ start-with-requires c κs =
     let v = s .pre .0 in
     let i = c .before .before .before .before .before .before .items .inv in
     let t = c .before .before .before .before .before .items-test .taken in
-    let q = i .2 .many in
-    ((v .prime, v .field), ((omega arith, omega arith), (v .terms, (v .targets, (v .written, (i .2 .room, (omega arith, i .2 .buffer)))))))
+    ((v .prime, v .field), ((omega arith, omega arith), (v .terms, (v .targets, (v .written, i .2)))))
 
 item-line-requires : tie.Need-item-line-requires Inv-loop μ-loop Inv-items μ-items
 item-line-requires c κs = c .before .before .before .before .before .before .before .before .before .before .before .before .before .before .before .before .before .items .inv .3 .reached .low
@@ -79,7 +78,7 @@ take-line-requires c κs =
     let x = c .before .before .before .before .before .before .loop in
     let d = c .before .before .before .before .before .before .before .before .before .before .before .before .before .before .before .before .before .before .start-with .kept .1 .1 .1 .1 .1 .1 .1 .1 .1 .1 in
     let sw = kept-sizes (d .0) (d .1 .0) (d .1 .1 .0) (d .1 .1 .1 .0) (d .1 .1 .1 .1 .0) in
-    let p = kept-places (c .before .before .before .before .before .before .before .before .before .before .before .before .before .before .before .before .before .before .before .before .before .before .before .before .before .items .inv .2) (then-sizes sw (x .inv .1)) in
+    let p = kept-places (c .before .before .before .before .before .before .before .before .before .before .before .before .before .before .before .before .before .before .before .before .before .before .before .before .before .items .inv .2 .places) (then-sizes sw (x .inv .1)) in
     let q = p .many in
     let n = x .inv .0 in
     ((v .prime, v .field), (subst (λ k. LineFits (s .args .h .p) (s .args .bytes .now) k (x .s)) (sym (v .count)) (next-fits _ _ _ _ _ _ _ (x .inv .3 .next) (c .before .before .before .before .before .loop-test .taken)), (v .terms, (v .others, (x .inv .2, (omega arith, p .buffer))))))
@@ -123,7 +122,7 @@ items-again c =
     let y = c .before .before .before .before .before .before .before .before .before .before .before .before .before .before .before .before .before .before .before .before .before .items in
     let d = c .before .before .before .before .before .before .before .before .before .before .before .before .before .before .start-with .kept .1 .1 .1 .1 .1 .1 .1 .1 .1 .1 in
     let sw = kept-sizes (d .0) (d .1 .0) (d .1 .1 .0) (d .1 .1 .1 .0) (d .1 .1 .1 .1 .0) in
-    (omega (arith, c .before .before .before .before .before .before .before .before .before .before .before .before .before .before .before .before .before .before .before .before .items-test .taken), then-sizes (y .inv .1) (then-sizes sw (x .inv .1)), kept-places (y .inv .2) (then-sizes sw (x .inv .1)), lines-end _ _ _ _ _ _ _ _ _ _ _ _ (x .inv .3) (c .before .loop-test .left) (x .c) (x .l) (x .w) (x .o) (x .n) refl (c .if2 .left))
+    (omega (arith, c .before .before .before .before .before .before .before .before .before .before .before .before .before .before .before .before .before .before .before .before .items-test .taken), then-sizes (y .inv .1) (then-sizes sw (x .inv .1)), kept-ready (y .inv .2) (then-sizes sw (x .inv .1)) (x .inv .2 .holds .arranged), lines-end _ _ _ _ _ _ _ _ _ _ _ _ (x .inv .3) (c .before .loop-test .left) (x .c) (x .l) (x .w) (x .o) (x .n) refl (c .if2 .left))
 
 same-length : tie.Need-same-length Inv-loop μ-loop Inv-items μ-items
 same-length c = search needs
@@ -143,7 +142,7 @@ same-length-5 c = search needs
 returns : tie.Need-returns Inv-loop μ-loop Inv-items μ-items
 returns c =
     let x = c .before .items in
-    items-end _ _ _ _ _ _ _ _ _ _ _ _ (x .inv .3) (omega (arith, x .inv .0, c .items-test .left)) (family-end _ _ _ _ _ _ _ _ (c .items-test .left))
+    items-end _ _ _ _ _ _ _ _ _ _ _ _ (x .inv .3) (omega (arith, x .inv .0, c .items-test .left)) (family-end _ _ _ _ _ _ _ _ (c .items-test .left)) (x .inv .2 .arranged)
 
 same-length-6 : tie.Need-same-length-6 Inv-loop μ-loop Inv-items μ-items
 same-length-6 c =
@@ -185,7 +184,7 @@ unfolding verdictOf LeftBehind
 returns-2 c =
     let x = c .before .before .before .before .before .before .before .before .before .before .before .before .before .before .before .before .before .before .loop in
     let b = c .before .before .before .before .before .before .before .before .before .before .before .take-line in
-    (lines-over _ _ _ _ _ _ _ _ _ _ _ _ (x .inv .3) (c .before .before .before .before .before .before .before .before .before .before .before .before .before .before .before .before .before .loop-test .taken) _ (b .ensures .1 .1) (rw (terms-length (termAt _ _ _ _) 0 (b .result)) (c .if1 .taken)), tt)
+    (lines-over _ _ _ _ _ _ _ _ _ _ _ _ (x .inv .3) (c .before .before .before .before .before .before .before .before .before .before .before .before .before .before .before .before .before .loop-test .taken) _ (b .ensures .1 .1) (rw (terms-length (termAt _ _ _ _) 0 (b .result)) (c .if1 .taken)), (tt, b .ensures .1 .0 .holds .arranged))
 
 same-length-11 : tie.Need-same-length-11 Inv-loop μ-loop Inv-items μ-items
 same-length-11 c =
@@ -221,7 +220,7 @@ returns-3 : tie.Need-returns-3 Inv-loop μ-loop Inv-items μ-items
 unfolding verdictOf LeftBehind
 returns-3 c =
     let x = c .before .before .loop in
-    (lines-wrong _ _ _ _ _ _ _ _ _ _ _ _ (x .inv .3) (c .before .loop-test .left) (x .c) (x .l) (x .w) (x .o) (x .n) refl (c .if2 .taken), tt)
+    (lines-wrong _ _ _ _ _ _ _ _ _ _ _ _ (x .inv .3) (c .before .loop-test .left) (x .c) (x .l) (x .w) (x .o) (x .n) refl (c .if2 .taken), (tt, x .inv .2 .holds .arranged))
 
 pub judge-sums-spec : {M : Type 1} → statement M
 judge-sums-spec =

@@ -10,7 +10,7 @@ use Rattle.termadding.proofs.term.add_term.Tie as tie
 find-requires : tie.Need-find-requires
 find-requires c κs =
     let z = c .before .before .before .before .before .before .before .before in
-    sorted _ _ _ _ _ _ (z .pre .1 .1)
+    ((z .pre .1 .0 .0, z .pre .1 .0 .1), sorted _ _ _ _ _ _ (z .pre .1 .1))
 
 add-onto-requires : tie.Need-add-onto-requires
 add-onto-requires c κs =
@@ -62,14 +62,14 @@ put-before-requires : tie.Need-put-before-requires
 put-before-requires c κs =
     let f = c .before .before .before .before .before .before in
     let z = f .before .before .before .before .before .before .before .before .before in
-    (z .pre .1 .0 .0, ((f .find .ensures .low, z .pre .1 .0 .1), z .pre .1 .1 .holds))
+    ((z .pre .1 .0 .0, z .pre .1 .0 .1), ((f .find .ensures .low, z .pre .1 .0 .2), z .pre .1 .1 .holds))
 
 add-result : tie.Need-add-result
 add-result c =
     let s = c .before .before .before .before .before .before .before .before in
     let f = s .before .before .before .before .before .before .before in
     let z = f .before .before .before .before .before .before .before .before .before in
-    let q = z .pre .1 .0 .1 in
+    let q = z .pre .1 .0 .2 in
     let g = z .good in
     record { fits = omega arith }
 

@@ -40,7 +40,7 @@ returns c =
     let stored = s .store .ensures in
     let (low, free) = z .pre .1 .0 in
     let f = z .pre .1 .1 in
-    (holds-before _ _ _ _ _ _ _ _ _ _ f free (z .pre .0) stored _ low _ moved, formula-before _ _ _ _ _ _ _ _ _ _ f free (z .pre .0) stored _ low _ moved)
+    (holds-before _ _ _ _ _ _ _ _ _ _ _ f free (z .pre .0) stored _ low _ moved, formula-before _ _ _ _ _ _ _ _ _ _ _ f free (z .pre .0) stored _ low _ moved)
 
 pub put-before-spec : {M : Type 1} → statement M
 put-before-spec =

@@ -1,46 +1,53 @@
--- `compare_at` is the order: the part of the letters that is compared is the word at the place.
-use Rattle.working.proofs.Parts.{cut}
+-- `compare_at` is the order: the longer word is greater, and words of one length are compared letter by letter.
+use mathlib.Core.Path.{_≡_, sym}
+use mathlib.Core.List.{List}
+use Prim.Native.Nat.{ℕ, _*_, _≤_}
+use native.Mathlib.Omega.{arith}
+use lib.ListN.{length, getD, take}
+use lib.Seq.{length-take-le}
+use Rattle.words.proofs.Turns.{order-shorter, order-longer}
+use Rattle.working.specs.Working.{wordAt}
+use Rattle.working.specs.Sorted.{Place}
+use Rattle.working.proofs.Parts.{part-length}
 use borrow.Author.Needs.{needs}
 use Rattle.working.proofs.search.compare_at.Statement.{statement}
 use Rattle.working.proofs.search.compare_at.Tie as tie
 
-mul-a : tie.Need-mul-a
-mul-a c = search needs
+size-here : (e : ℕ) (v : List ℕ) → (e ≤ 72) × (72 ≤ length v) → length (take e v) ≡ e
+size-here e v h = length-take-le e v (omega (arith, h))
 
-mul-e : tie.Need-mul-e
-mul-e c = search needs
+size-there : (l w : List ℕ) (s : ℕ) → Place l w s → length (wordAt l w s) ≡ getD l s 0
+size-there l w s h = part-length (s * 72) (getD l s 0) w (omega (arith, h .letters, h .short))
 
-shared-slice-read-e : tie.Need-shared-slice-read-e
-shared-slice-read-e c = search needs
+mul-n : tie.Need-mul-n
+mul-n c = search needs
 
-add-e : tie.Need-add-e
-add-e c = search needs
-
-sub-compare : tie.Need-sub-compare
-sub-compare c = search needs
-
-part-compare-start : tie.Need-part-compare-start
-part-compare-start c = search needs
-
-part-compare-end : tie.Need-part-compare-end
-part-compare-end c = search needs
-
-compare-requires : tie.Need-compare-requires
-compare-requires c κs = search needs
+shared-slice-read-n : tie.Need-shared-slice-read-n
+shared-slice-read-n c = search needs
 
 returns : tie.Need-returns
-returns c = simp cut at (c .compare .ensures)
+returns c = let z = c .before .before .before .before .before in sym (order-shorter _ _ (rw (size-here (z .args .e) (z .args .v .now) (z .pre .0), size-there _ _ _ (z .pre .1)) (c .if1 .taken)))
+
+returns-2 : tie.Need-returns-2
+returns-2 c = let z = c .before .before .before .before .before .before in sym (order-longer _ _ (rw (size-here (z .args .e) (z .args .v .now) (z .pre .0), size-there _ _ _ (z .pre .1)) (c .if2 .taken)))
+
+mul-compare-level : tie.Need-mul-compare-level
+mul-compare-level c = search needs
+
+compare-level-requires : tie.Need-compare-level-requires
+compare-level-requires c κs = search needs
+
+returns-3 : tie.Need-returns-3
+returns-3 c = let z = c .before .before .before .before .before .before .before in let e : z .args .e ≡ getD (z .args .l .now) (z .args .s) 0 = omega (arith, c .before .if2 .left, c .before .before .if1 .left) in rw (← e) (c .compare-level .ensures)
 
 pub compare-at-spec : {M : Type 1} → statement M
 compare-at-spec =
     tie.close
     (tie.spec
-    mul-a
-    mul-e
-    shared-slice-read-e
-    add-e
-    sub-compare
-    part-compare-start
-    part-compare-end
-    compare-requires
-    returns)
+    mul-n
+    shared-slice-read-n
+    returns
+    returns-2
+    mul-compare-level
+    compare-level-requires
+    returns-3)

@@ -2,7 +2,7 @@
 use mathlib.Core.Path.{_≡_}
 use Prim.Native.Nat.{ℕ, _+_, _-_, _/_, _≤_, _<_}
 use native.Mathlib.Omega.{arith}
-use lib.ListN.{getD}
+use lib.ListN.{getD, take}
 use Rattle.words.specs.declared.Comparison.the-variants.{Above}
 use Rattle.words.specs.Order.{Lt, wordOrder}
 use Rattle.working.specs.Working.{wordAt}
@@ -12,14 +12,14 @@ use Rattle.working.proofs.search.find.Statement.{statement}
 use Rattle.working.proofs.search.find.Tie as tie
 
 abbrev Inv-loop : tie.InvT-loop
-Inv-loop v l w o n lo₀ hi₀ lo hi =
+Inv-loop v e l w o n lo₀ hi₀ lo hi =
     (lo ≤ hi)
     × (hi ≤ n)
-    × ((i : ℕ) → i < lo → Lt wordOrder v (wordAt l w (getD o i 0)))
-    × (hi < n → wordOrder v (wordAt l w (getD o hi 0)) ≡ Above)
+    × ((i : ℕ) → i < lo → Lt wordOrder (take e v) (wordAt l w (getD o i 0)))
+    × (hi < n → wordOrder (take e v) (wordAt l w (getD o hi 0)) ≡ Above)
 
 abbrev μ-loop : tie.MeasureT-loop
-μ-loop v l w o n lo₀ hi₀ lo hi = hi - lo
+μ-loop v e l w o n lo₀ hi₀ lo hi = hi - lo
 
 loop-holds : tie.Need-loop-holds Inv-loop μ-loop
 loop-holds c = (search needs, search needs, λ i h. absurd (omega arith), λ h. absurd (omega arith))
@@ -39,7 +39,7 @@ shared-slice-read-compare-at c = search needs
 compare-at-requires : tie.Need-compare-at-requires Inv-loop μ-loop
 compare-at-requires c κs =
     let z = c .before .before .before .before .before .before .before in
-    z .pre .place _ (search needs)
+    (z .pre .0, z .pre .1 .place _ (search needs))
 
 enum-told : tie.Need-enum-told Inv-loop μ-loop
 enum-told c = search needs
@@ -56,7 +56,7 @@ loop-again c =
     let m = q .before .before .before in
     let z = m .before .before .before .before .before in
     let half = m .loop .lo + (m .loop .hi - m .loop .lo) / 2 in
-    (search needs, search needs, below-all _ _ _ _ _ half (z .pre) (search needs) (q .compare-at .ensures) (c .enum-told .given .1), search needs)
+    (search needs, search needs, below-all _ _ _ _ _ half (z .pre .1) (search needs) (q .compare-at .ensures) (c .enum-told .given .1), search needs)
 
 enum-told-2 : tie.Need-enum-told-2 Inv-loop μ-loop
 enum-told-2 c = search needs
@@ -67,7 +67,7 @@ returns c =
     let m = q .before .before .before in
     let z = m .before .before .before .before .before in
     let half = m .loop .lo + (m .loop .hi - m .loop .lo) / 2 in
-    belongs-equal _ _ _ _ _ half (z .pre) (search needs) (q .compare-at .ensures) (c .enum-told2 .given .1)
+    belongs-equal _ _ _ _ _ half (z .pre .1) (search needs) (q .compare-at .ensures) (c .enum-told2 .given .1)
 
 enum-told-3 : tie.Need-enum-told-3 Inv-loop μ-loop
 enum-told-3 c = search needs
@@ -81,14 +81,14 @@ loop-again-2 c =
     let m = q .before .before .before in
     let z = m .before .before .before .before .before in
     let half = m .loop .lo + (m .loop .hi - m .loop .lo) / 2 in
-    (search needs, search needs, m .loop .inv .2, above-here _ _ _ _ _ half (z .pre) (search needs) (q .compare-at .ensures) (c .enum-told3 .given .1))
+    (search needs, search needs, m .loop .inv .2, above-here _ _ _ _ _ half (z .pre .1) (search needs) (q .compare-at .ensures) (c .enum-told3 .given .1))
 
 returns-2 : tie.Need-returns-2 Inv-loop μ-loop
 returns-2 c =
     let m = c .before in
     let z = m .before .before .before .before .before in
     let a = z .args in
-    belongs-new (a .v .now) (a .l .now) (a .w .now) (a .o .now) (a .n) (m .loop .lo) (m .loop .hi) (search needs) (search needs) (m .loop .inv .2) (m .loop .inv .3)
+    belongs-new (take (a .e) (a .v .now)) (a .l .now) (a .w .now) (a .o .now) (a .n) (m .loop .lo) (m .loop .hi) (search needs) (search needs) (m .loop .inv .2) (m .loop .inv .3)
 
 pub find-spec : {M : Type 1} → statement M
 find-spec =
