@@ -30,10 +30,12 @@ use Rattle.checking.specs.declared.Checked.{Checked}
 use Rattle.checking.specs.declared.Checked.the-variants.{Rejected, Accepted}
 use Rattle.summing.specs.declared.SumsAnswer.{SumsAnswer}
 use Rattle.summing.specs.declared.SumsAnswer.the-variants.{Refused, Passed}
+use Rattle.summing.specs.declared.LapsAnswer.{LapsAnswer}
+use Rattle.summing.specs.declared.LapsAnswer.the-variants.{Stopped, Through}
 use Rattle.sumlines.specs.Told.{told}
 use Rattle.sumlines.specs.Heads.{HeadsOf}
 use Rattle.sumlines.specs.Lines.{sumsAt, Counted, uncounted, counted}
-use Rattle.summing.specs.Judged.{verdictOf, Past, all-left, one-past, Reached, LeftBehind, Sides}
+use Rattle.summing.specs.Judged.{verdictOf, lapsVerdictOf, LapsBehind, Past, all-left, one-past, Reached, LeftBehind, Sides}
 use Rattle.checking.specs.Answer.{answerOf, basisVerdict, HeadsWhere, lapsVerdict, relationsVerdict, PackageLies, SumsStart}
 use Rattle.summing.proofs.LineOrder.{sums-skip, follows-order, relabelled}
 use Rattle.summing.proofs.OverlapsJudging.{overlaps-skip}
@@ -73,6 +75,20 @@ module _ (r : SumsAnswer) (v : Verdict) (e : verdictOf r ≡ v) where
   pub sums-passed : (at line : ℕ) → r ≡ Passed at line → v ≡ fine
   unfolding verdictOf
   sums-passed at line q = sym e ∙ rw q
+
+module _ (r : LapsAnswer) (v : Verdict) (e : lapsVerdictOf r ≡ v) where
+  pub laps-stopped : (n k : ℕ) → r ≡ Stopped n k → v ≡ refusal n k
+  unfolding lapsVerdictOf
+  laps-stopped n k q = sym e ∙ rw q
+
+  pub laps-through : (count : ℕ) (left : Bool) → r ≡ Through count left → v ≡ fine
+  unfolding lapsVerdictOf
+  laps-through count left q = sym e ∙ rw q
+
+pub laps-behind : (n : ℕ) (ss : List SumLine) (r : LapsAnswer) (count : ℕ) (left : Bool) → r ≡ Through count left → LapsBehind n ss r
+    → (count ≡ n) × (left ≡ false → itemsJudged n ss ≡ fine)
+unfolding LapsBehind
+laps-behind n ss r count left q l = rw q at l
 
 pub sums-left : (h : Head) (k count : ℕ) (bytes : List ℕ) (ss : List SumLine) (r : SumsAnswer) (at line : ℕ) → r ≡ Passed at line → LeftBehind h k count bytes ss r
     → Reached h k (count + 1) bytes at line × Past k ss (sumsAt bytes at line)

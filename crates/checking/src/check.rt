@@ -6,6 +6,7 @@ use crate::basis::judge_basis;
 use overlapwords::overlap_at::count_overlaps;
 use package::Head;
 use sumlines::item_lines::judge_items;
+use summing::LapsAnswer;
 use summing::SumsAnswer;
 use summing::overlap_sums::judge_overlaps;
 use summing::sums::judge_sums;
@@ -15,15 +16,38 @@ ghost use Prim.Native.Nat.{_+_, _≤_};
 ghost use lib.ListN.{length};
 ghost use Rattle.field.specs.Field.{fieldOf};
 ghost use Rattle.words.specs.Order.{wordOrder};
+ghost use Rattle.words.specs.Laid.{laidWords, Laid};
 ghost use Rattle.overlaps.specs.Overlaps.{leads, overlaps};
-ghost use Rattle.acceptance.specs.Check.{thenJudge, basisJudged, sumsVerdict};
+ghost use Rattle.overlaps.specs.Position.{Short};
+ghost use Rattle.acceptance.specs.Check.{thenJudge, basisJudged, itemsJudged, sumsVerdict};
 ghost use Rattle.sumlines.specs.Heads.{HeadsOf};
-ghost use Rattle.sumlines.specs.Lines.{sumsAt};
+ghost use Rattle.sumlines.specs.Lines.{sumsAt, Counted};
+ghost use Rattle.sumlines.specs.Told.{told};
 ghost use Rattle.summing.specs.Judged.{Reached};
 ghost use Rattle.sumlines.specs.Room.{Places, Ready};
 ghost use Rattle.checking.specs.Answer.{answerOf, lapsVerdict, relationsVerdict, relationsIn, basisIn, PackageLies, SumsStart, HeadRoom};
 
-// 15, then the sums of the overlaps: the lines of kind O stand from the place at on.
+// The number of the first O line, from the place at on, whose item is above the overlap count of n leading words, or 0. The line there has the number `line`.
+fn first_above(
+    heads: &[usize],
+    headlens: &[usize],
+    bytes: &[u8],
+    n: usize,
+    at: usize,
+    line: usize,
+) -> usize
+    requires { ⌜ Laid (now heads) (now headlens) (now bytes) n ⌝ }
+    requires { ⌜ (n ≤ 64) × Short (now headlens) n ⌝ }
+    requires { ⌜ (at ≤ length (now bytes)) × (line ≤ at + 4) × (1 ≤ line) × (length (now bytes) ≤ 65536) ⌝ }
+    requires { ⌜ Counted line (sumsAt (now bytes) at line) ⌝ }
+    ensures { λ r. ⌜ told 15 r ≡ itemsJudged (length (overlaps (laidWords (now (heads .entry)) (now (headlens .entry)) (now (bytes .entry)) n))) (sumsAt (now (bytes .entry)) at line) ⌝ }
+{
+    let count = count_overlaps(heads, headlens, bytes, n);
+    judge_items(bytes, at, line, count)
+}
+
+// 15, then the sums of the overlaps: the lines of kind O stand from the place at on. 15 comes first, but it is looked for only where the
+// sums are refused or a line is left over: else each line belonged to an overlap, and none was above the count.
 pub fn judge_laps(
     h: Head,
     heads: &[usize],
@@ -57,14 +81,6 @@ pub fn judge_laps(
 {
     let base = h.gens as usize + 1;
     let basis = h.basis as usize;
-    let count = count_overlaps(heads, headlens, bytes, basis);
-    let a = judge_items(bytes, at, line, count);
-    if a != 0 {
-        return Checked::Rejected {
-            number: 15,
-            place: a,
-        };
-    }
     let r = judge_overlaps(
         h,
         heads,
@@ -86,13 +102,34 @@ pub fn judge_laps(
         buf,
         lap,
     );
-    if let SumsAnswer::Refused { number, place } = r {
-        return Checked::Rejected {
-            number: number,
-            place: place,
-        };
+    match r {
+        LapsAnswer::Stopped { number, place } => {
+            let a = first_above(heads, headlens, bytes, basis, at, line);
+            if a != 0 {
+                return Checked::Rejected {
+                    number: 15,
+                    place: a,
+                };
+            }
+            Checked::Rejected {
+                number: number,
+                place: place,
+            }
+        }
+        LapsAnswer::Through { count, left } => {
+            if !left {
+                return Checked::Accepted { count: count };
+            }
+            let a = judge_items(bytes, at, line, count);
+            if a != 0 {
+                return Checked::Rejected {
+                    number: 15,
+                    place: a,
+                };
+            }
+            Checked::Accepted { count: count }
+        }
     }
-    Checked::Accepted { count: count }
 }
 
 // The G sums, then these.

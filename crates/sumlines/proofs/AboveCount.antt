@@ -8,7 +8,7 @@ use native.Mathlib.Numerals.{add-one}
 use native.Mathlib.Omega.{arith}
 use lib.Dec.{eqb, ltb}
 use lib.ListN.{length}
-use borrow.Author.Tests.{eq-eqb, ne-eqb}
+use borrow.Author.Tests.{eq-eqb, ne-eqb, le-ltb}
 use Rattle.package.specs.Sums.{SumLine, sumsOf}
 use Rattle.acceptance.specs.Check.{Verdict, refusal, fine, itemsJudged}
 use Rattle.sumlines.specs.declared.SumAt.{SumAt}
@@ -22,6 +22,14 @@ above-not count k i n = rw (aboveCount, ne-eqb k 3 n)
 pub above-test : (count k i : ℕ) → k ≡ 3 → ltb count i ≡ aboveCount count k i
 unfolding aboveCount
 above-test count k i e = rw (aboveCount, eq-eqb k 3 e)
+
+pub above-low : (count k i : ℕ) → i ≤ count → aboveCount count k i ≡ false
+unfolding aboveCount
+above-low count k i h = go (eqb k 3)
+  where
+    go : (t : Bool) → _≡_ {A = Bool} (elim t [ false ↦ false | true ↦ ltb count i ]) false
+    go false = refl
+    go true = le-ltb count i h
 
 pub told-some : (n r : ℕ) → 1 ≤ r → told n r ≡ refusal n r
 unfolding told
@@ -51,7 +59,7 @@ module _ (count : ℕ) (s : SumLine) (ss : List SumLine) where
       go true x false y e = let z : false ≡ true = e in cc
       go false x u y e = let z : false ≡ true = e in cc
 
-  items-later : aboveCount count (s .kind) (s .item) ≡ false → itemsJudged count (s ∷ ss) ≡ itemsJudged count ss
+  pub items-later : aboveCount count (s .kind) (s .item) ≡ false → itemsJudged count (s ∷ ss) ≡ itemsJudged count ss
   unfolding itemsJudged aboveCount
   items-later = go (eqb (s .kind) 3) refl (ltb count (s .item)) refl
     where

@@ -13,7 +13,7 @@ use Rattle.text.specs.Pieces.{Pieces, final, piece, pieces, lines, fields, stop
 use Rattle.text.proofs.Cutting.{cut-more, cut-end, part-part}
 use Rattle.package.specs.Sums.{SumLine, SumForm, noSum, sum, sumForm, withSum, sumsOf}
 use Rattle.sumlines.specs.declared.SumAt.{SumAt}
-use Rattle.sumlines.specs.Lines.{sumsAt, heldLine, heldFrom, NumberedFrom, firstIs, ItemLine, Inside}
+use Rattle.sumlines.specs.Lines.{sumsAt, heldLine, heldFrom, NumberedFrom, firstIs, Inside}
 
 -- lines numbered from m on, none of which has a lower number
 none-lower : (m n : ℕ) (ls : Pieces) → n < m → NumberedFrom n (sumsOf m ls) → sumsOf m ls ≡ []
@@ -59,34 +59,28 @@ module _ (bytes : List ℕ) (at e : ℕ) (q : e ≡ at + stop 10 (drop at bytes)
     unfolding heldFrom withSum
     line-sum k i c a m o b l f x y x′ y′ n = sym (rw (f, in-line a m x x′, in-line b l y y′) at (cut n))
 
--- the line at a place, as one of an item
-module _ (bytes : List ℕ) (n k i : ℕ) (ss : List SumLine) (s : SumAt) (H : heldFrom bytes n s ≡ ss) where
-  first-held : (t : Bool) → s .present ≡ t → _≡_ {A = Bool} (firstIs k i ss) (elim t [ false ↦ false | true ↦ elim (eqb (s .kind) k) [ false ↦ false | true ↦ eqb (s .item) i ] ])
+-- a line, as one of an item
+module _ (k i : ℕ) (s : SumAt) (bytes : List ℕ) (n : ℕ) where
+  pub not-present : s .present ≡ false → firstIs k i (heldFrom bytes n s) ≡ false
   unfolding heldFrom firstIs
-  first-held true e = ap (firstIs k i) (sym H) ∙ rw (heldFrom, e)
-  first-held false e = ap (firstIs k i) (sym H) ∙ rw (heldFrom, e)
+  not-present e = rw (heldFrom, e)
 
-  absent : (r : SumAt) → r .present ≡ false → false ≡ firstIs k i ss → ItemLine bytes n k i ss r
-  absent r e f = record { is-first = e ∙ f; held = λ x. absurd (true≢false (sym x ∙ e)) }
-
-  pub other-kind : s .kind ≢ k → (r : SumAt) → r .present ≡ false → ItemLine bytes n k i ss r
-  other-kind d r e = absent r e (go (s .present) refl)
+  pub item-present : firstIs k i (heldFrom bytes n s) ≡ true → s .present ≡ true
+  item-present q = go (s .present) refl
     where
-      go : (t : Bool) → s .present ≡ t → false ≡ firstIs k i ss
-      go true p = sym (first-held true p ∙ rw (ne-eqb (s .kind) k d))
-      go false p = sym (first-held false p)
+      go : (t : Bool) → s .present ≡ t → s .present ≡ true
+      go true e = e
+      go false e = absurd (true≢false (sym q ∙ not-present e))
 
-  pub other-item : s .kind ≡ k → s .item ≢ i → (r : SumAt) → r .present ≡ false → ItemLine bytes n k i ss r
-  other-item c d r e = absent r e (go (s .present) refl)
-    where
-      go : (t : Bool) → s .present ≡ t → false ≡ firstIs k i ss
-      go true p = sym (first-held true p ∙ rw (eq-eqb (s .kind) k c, ne-eqb (s .item) i d))
-      go false p = sym (first-held false p)
+  module _ (p : s .present ≡ true) where
+    pub present-held : heldFrom bytes n s ≡ heldLine bytes n s ∷ sumsAt bytes (s .next) (suc n)
+    unfolding heldFrom
+    present-held = rw (heldFrom, p)
 
-  pub same-item : s .kind ≡ k → s .item ≡ i → ItemLine bytes n k i ss s
-  unfolding heldFrom
-  same-item c d = record { is-first = go (s .present) refl; held = λ p. sym H ∙ rw (heldFrom, p) }
-    where
-      go : (t : Bool) → s .present ≡ t → s .present ≡ firstIs k i ss
-      go true p = p ∙ sym (first-held true p ∙ rw (eq-eqb (s .kind) k c, eq-eqb (s .item) i d))
-      go false p = p ∙ sym (first-held false p)
+    pub other-kind : s .kind ≢ k → firstIs k i (heldFrom bytes n s) ≡ false
+    unfolding firstIs
+    other-kind d = ap (firstIs k i) present-held ∙ rw (firstIs, ne-eqb (s .kind) k d)
+
+    pub same-kind : s .kind ≡ k → firstIs k i (heldFrom bytes n s) ≡ eqb (s .item) i
+    unfolding firstIs
+    same-kind c = ap (firstIs k i) present-held ∙ rw (firstIs, eq-eqb (s .kind) k c)

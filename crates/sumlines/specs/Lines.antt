@@ -41,11 +41,6 @@ unfoldable pub firstIs : ℕ → ℕ → List SumLine → Bool
 firstIs k i [] = false
 firstIs k i (s ∷ ss) = elim (eqb (s .kind) k) [ false ↦ false | true ↦ eqb (s .item) i ]
 
--- The line at a place, where it is one of item i of kind k.
-pub record ItemLine (bytes : List ℕ) (n k i : ℕ) (ss : List SumLine) (r : SumAt) : Type 0 where
-  pub is-first : r .present ≡ firstIs k i ss
-  pub held : r .present ≡ true → ss ≡ heldLine bytes n r ∷ sumsAt bytes (r .next) (suc n)
-
 -- A line that stands at a place has its words in the bytes, and ends behind the place.
 pub record Inside (bytes : List ℕ) (at : ℕ) (r : SumAt) : Type 0 where
   pub further : at < r .next

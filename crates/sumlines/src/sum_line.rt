@@ -6,9 +6,10 @@ use sumreading::sum_lines::read_sum;
 use text::bytes::find;
 ghost use mathlib.Core.Path.{_≡_};
 ghost use mathlib.Core.Bool.{true, false};
+ghost use mathlib.Core.List.{List};
 ghost use Prim.Native.Nat.{ℕ, _≤_};
 ghost use lib.ListN.{length};
-ghost use Rattle.sumlines.specs.Lines.{sumsAt, heldFrom, NumberedFrom, ItemLine, Inside};
+ghost use Rattle.sumlines.specs.Lines.{sumsAt, heldFrom, NumberedFrom, firstIs, Inside};
 
 // The answer where no line stands.
 fn no_line() -> SumAt
@@ -65,18 +66,15 @@ pub fn line_at(bytes: &[u8], at: usize) -> SumAt
     }
 }
 
-// The sum line from the place at on, if it is one of the item of the kind.
-pub fn item_line(bytes: &[u8], at: usize, kind: u32, item: usize) -> SumAt
-    requires { ⌜ at ≤ length (now bytes) ⌝ }
-    ensures { λ r. ⌜ ((n : ℕ) → NumberedFrom n (sumsAt (now (bytes .entry)) at n) → ItemLine (now (bytes .entry)) n kind item (sumsAt (now (bytes .entry)) at n) r) ⌝ }
-    ensures { λ r. ⌜ (r .present ≡ true → Inside (now (bytes .entry)) at r) ⌝ }
+// Whether a line is present and one of the item of the kind.
+pub fn is_item(s: SumAt, kind: u32, item: usize) -> bool
+    ensures { λ r. ⌜ ((bytes : List ℕ) (n : ℕ) → r ≡ firstIs kind item (heldFrom bytes n s)) ⌝ }
 {
-    let s = line_at(bytes, at);
+    if !s.present {
+        return false;
+    }
     if s.kind != kind {
-        return no_line();
+        return false;
     }
-    if s.item != item {
-        return no_line();
-    }
-    s
+    s.item == item
 }

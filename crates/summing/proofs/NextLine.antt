@@ -12,28 +12,33 @@ use Rattle.package.specs.Sums.{SumLine, ofs}
 use Rattle.package.specs.Readable.{SumsInOrder}
 use Rattle.acceptance.specs.Content.{sumOf}
 use Rattle.sumlines.specs.declared.SumAt.{SumAt}
-use Rattle.sumlines.specs.Lines.{sumsAt, heldLine, NumberedFrom, firstIs, ItemLine, Inside, LineFits}
+use Rattle.sumlines.specs.Lines.{sumsAt, heldLine, heldFrom, NumberedFrom, firstIs, Inside, LineFits}
 use Rattle.summing.specs.Judged.{Reached}
+use Rattle.sumlines.proofs.LineReading.{item-present, present-held}
 use Rattle.summing.proofs.LineOrder.{is-first-kind, sum-this, order-numbered, order-rest, order-first, order-next, sum-none, line-fits}
 
--- The lines from `at` on are reached, and s is the first of them where it is one of item i.
+-- The lines from `at` on are reached, and s is the first of them.
 pub record NextLine (h : Head) (kind i : ℕ) (bytes : List ℕ) (at line : ℕ) (s : SumAt) : Type 0 where
   pub reached : Reached h kind i bytes at line
   pub inside : s .present ≡ true → Inside bytes at s
-  pub first : ItemLine bytes line kind i (sumsAt bytes at line) s
+  pub held : heldFrom bytes line s ≡ sumsAt bytes at line
 
 module _ (h : Head) (kind i : ℕ) (bytes : List ℕ) (at line : ℕ) (s : SumAt) where
   pub next-line : Reached h kind i bytes at line → (s .present ≡ true → Inside bytes at s)
-      → ((n : ℕ) → NumberedFrom n (sumsAt bytes at n) → ItemLine bytes n kind i (sumsAt bytes at n) s) → NextLine h kind i bytes at line s
-  next-line r x t = record { reached = r; inside = x; first = t line (order-numbered (r .order)) }
+      → ((n : ℕ) → NumberedFrom n (sumsAt bytes at n) → heldFrom bytes n s ≡ sumsAt bytes at n) → NextLine h kind i bytes at line s
+  next-line r x t = record { reached = r; inside = x; held = t line (order-numbered (r .order)) }
 
   module _ (d : NextLine h kind i bytes at line s) where
-    module _ (p : s .present ≡ true) where
+    -- s is one of the item
+    module _ (q : firstIs kind i (heldFrom bytes line s) ≡ true) where
+      p : s .present ≡ true
+      p = item-present kind i s bytes line q
+
       pub lines-are : sumsAt bytes at line ≡ heldLine bytes line s ∷ sumsAt bytes (s .next) (suc line)
-      lines-are = d .first .held p
+      lines-are = sym (d .held) ∙ present-held kind i s bytes line p
 
       pub its-kind : (s .kind ≡ kind) × (s .item ≡ i)
-      its-kind = is-first-kind kind i (heldLine bytes line s) (sumsAt bytes (s .next) (suc line)) (rw lines-are at (sym (d .first .is-first) ∙ p))
+      its-kind = is-first-kind kind i (heldLine bytes line s) (sumsAt bytes (s .next) (suc line)) (rw lines-are at (rw (d .held) at q))
 
       in-order : SumsInOrder h packageLimits kind i line (heldLine bytes line s ∷ sumsAt bytes (s .next) (suc line))
       in-order = rw lines-are at (d .reached .order)
@@ -62,12 +67,16 @@ module _ (h : Head) (kind i : ℕ) (bytes : List ℕ) (at line : ℕ) (s : SumAt
             order = rw (add-one line) (rw (its-kind .0, its-kind .1) at (order-rest in-order));
           }
 
-    module _ (p : s .present ≡ false) where
+    -- s is none of the item
+    module _ (q : firstIs kind i (heldFrom bytes line s) ≡ false) where
       none-first : firstIs kind i (sumsAt bytes at line) ≡ false
-      none-first = sym (d .first .is-first) ∙ p
+      none-first = rw (d .held) at q
 
       pub no-line-left : sumOf kind i (sumsAt bytes at line) ≡ []
       no-line-left = sum-none (sumsAt bytes at line) (d .reached .order) none-first
 
-      pub next-item : Reached h kind (i + 1) bytes at line
-      next-item = let r = d .reached in record { size = r .size; low = r .low; small = r .small; some = r .some; order = order-next (sumsAt bytes at line) (r .order) none-first }
+      item-reached : Reached h kind (i + 1) bytes at line
+      item-reached = let r = d .reached in record { size = r .size; low = r .low; small = r .small; some = r .some; order = order-next (sumsAt bytes at line) (r .order) none-first }
+
+      pub next-item : NextLine h kind (i + 1) bytes at line s
+      next-item = record { reached = item-reached; inside = d .inside; held = d .held }

@@ -25,16 +25,18 @@ use Rattle.package.specs.Bounds.{isBelow}
 use Rattle.package.specs.Sums.{SumLine}
 use Rattle.working.specs.Working.{terms, formula}
 use Rattle.acceptance.specs.Content.{sumOf, lineOf}
-use Rattle.acceptance.specs.Check.{Verdict, refusal, fine, thenJudge, over, rest, sumVerdict, notBelow, certified, lessBelow, overlapVerdict, overlapsJudged}
+use Rattle.acceptance.specs.Check.{Verdict, refusal, fine, thenJudge, over, rest, sumVerdict, notBelow, certified, lessBelow, overlapVerdict, overlapsJudged, itemsJudged}
 use Rattle.sumlines.specs.declared.SumAt.{SumAt}
 use Rattle.overlapwords.specs.declared.OverlapAt.{OverlapAt}
-use Rattle.summing.specs.declared.SumsAnswer.{SumsAnswer}
-use Rattle.sumlines.specs.Lines.{sumsAt, heldLine, NumberedFrom, ItemLine, Inside, takenLine}
-use Rattle.summing.specs.Judged.{verdictOf, Reached}
+use Rattle.summing.specs.declared.LapsAnswer.{LapsAnswer}
+use Rattle.summing.specs.declared.LapsAnswer.the-variants.{Through}
+use Rattle.sumlines.specs.Lines.{sumsAt, heldLine, heldFrom, NumberedFrom, firstIs, Inside, takenLine}
+use Rattle.summing.specs.Judged.{lapsVerdictOf, LapsBehind}
 use Rattle.overlapwords.specs.OverlapPlaces.{cursorOf, seenOverlaps}
 use Rattle.summing.proofs.LineOrder.{sum-skip}
 use Rattle.summing.proofs.NextLine.{NextLine, next-line, lines-are, its-kind, its-sum, next-reached, no-line-left, next-item}
-use Rattle.overlapwords.proofs.OverlapWalk.{seen-one, seen-none}
+use Rattle.sumlines.proofs.AboveCount.{above-low, items-later}
+use Rattle.overlapwords.proofs.OverlapWalk.{seen-one, seen-none, count-none}
 
 is-below : (u v : Word) → isBelow u v ≡ true → wordOrder u v ≡ Below
 unfolding isBelow
@@ -92,7 +94,7 @@ overlaps-skip K O G s ss (o ∷ os) i h =
     let d : s .kind ≡ 3 → s .item ≢ i = λ e q. let z = h e in omega arith in
     rw (sum-skip 3 i s ss d, overlaps-skip K O G s ss os (suc i) (λ e. let z = h e in omega arith))
 
-module _ (h : Head) (bytes : List ℕ) (G : Family) (ws : List Word) (whole : Verdict) where
+module _ (h : Head) (bytes : List ℕ) (G : Family) (ws : List Word) (whole : Verdict) (total : ℕ) (items : Verdict) where
   abbrev K : Operations
   K = fieldOf (h .p)
 
@@ -107,32 +109,49 @@ module _ (h : Head) (bytes : List ℕ) (G : Family) (ws : List Word) (whole : Ve
   abbrev fromLines : List SumLine → OverlapAt → ℕ → Poly → Verdict
   fromLines ss f i g = thenJudge (overlapVerdict (i + 1) (lessBelow K wordOrder G (overlapWord G (lapOf f)) g (sumOf 3 (i + 1) ss))) (laterOverlaps ss f i)
 
-  -- The first i overlaps passed, and f is the next.
-  pub record OverlapsDone (at line i : ℕ) (f : OverlapAt) (answer : SumsAnswer) : Type 0 where
-    pub reached : Reached h 3 (i + 1) bytes at line
+  -- The first i overlaps passed, f is the next, and s is the next line.
+  pub record OverlapsDone (at line i : ℕ) (f : OverlapAt) (s : SumAt) (answer : LapsAnswer) : Type 0 where
+    pub next : NextLine h 3 (i + 1) bytes at line s
     pub same : overlapsJudged K wordOrder G (sumsAt bytes at line) (seenOverlaps ws f) (i + 1) ≡ whole
-    pub told : verdictOf answer ≡ fine
+    pub numbered : i + length (seenOverlaps ws f) ≡ total
+    pub below : itemsJudged total (sumsAt bytes at line) ≡ items
+    pub told : answer ≡ Through i (s .present)
 
-  -- In overlap f, number i + 1, lines were taken away, and g is left; s is the next of its lines.
+  -- In overlap f, number i + 1, lines were taken away, and g is left; s is the next line.
   pub record LapLinesDone (at line i : ℕ) (f : OverlapAt) (g : Poly) (s : SumAt) : Type 0 where
     pub next : NextLine h 3 (i + 1) bytes at line s
     pub same : fromLines (sumsAt bytes at line) f i g ≡ whole
+    pub numbered : i + 1 + length (overlapsAt ws (behind (cursorOf f))) ≡ total
+    pub below : itemsJudged total (sumsAt bytes at line) ≡ items
 
-  pub lap-start : (at line i : ℕ) (f : OverlapAt) (answer : SumsAnswer) → OverlapsDone at line i f answer → f .present ≡ true → (g : Poly) → g ≡ written K wordOrder (difference K G (lapOf f)) → (s : SumAt)
-      → (s .present ≡ true → Inside bytes at s)
-      → ((n : ℕ) → NumberedFrom n (sumsAt bytes at n) → ItemLine bytes n 3 (i + 1) (sumsAt bytes at n) s)
-      → LapLinesDone at line i f g s
+  pub overlaps-start : (at line : ℕ) (f : OverlapAt) (s : SumAt) → NextLine h 3 1 bytes at line s → (os : List Overlap) → seenOverlaps ws f ≡ os
+      → whole ≡ overlapsJudged K wordOrder G (sumsAt bytes at line) os 1 → total ≡ length os → items ≡ itemsJudged total (sumsAt bytes at line)
+      → OverlapsDone at line 0 f s (Through 0 (s .present))
+  overlaps-start at line f s n os e w t i =
+      let z : length (seenOverlaps ws f) ≡ length os = ap (λ (l : List Overlap). length l) e in
+      record {
+        next = n;
+        same = ap (λ (l : List Overlap). overlapsJudged K wordOrder G (sumsAt bytes at line) l 1) e ∙ sym w;
+        numbered = omega arith;
+        below = sym i;
+        told = refl;
+      }
+
+  pub lap-start : (at line i : ℕ) (f : OverlapAt) (s : SumAt) (answer : LapsAnswer) → OverlapsDone at line i f s answer → f .present ≡ true
+      → (g : Poly) → g ≡ written K wordOrder (difference K G (lapOf f)) → LapLinesDone at line i f g s
   unfolding overlapsJudged
-  lap-start at line i f answer d p g e s x t = record {
-    next = next-line h 3 (i + 1) bytes at line s (d .reached) x t;
+  lap-start at line i f s answer d p g e = record {
+    next = d .next;
     same = rw (e, add-one (i + 1)) (rw (seen-one ws f p) at (d .same));
+    numbered = let z : i + suc (length (overlapsAt ws (behind (cursorOf f)))) ≡ total = rw (seen-one ws f p) at (d .numbered) in omega arith;
+    below = d .below;
   }
 
   module _ (at line i : ℕ) (f : OverlapAt) (g : Poly) (s : SumAt) (d : LapLinesDone at line i f g s) where
     abbrev m : Word
     m = overlapWord G (lapOf f)
 
-    module _ (p : s .present ≡ true) where
+    module _ (p : firstIs 3 (i + 1) (heldFrom bytes line s) ≡ true) where
       abbrev x : SumLine
       x = heldLine bytes line s
 
@@ -152,16 +171,21 @@ module _ (h : Head) (bytes : List ℕ) (G : Family) (ws : List Word) (whole : Ve
         lap-over l = rw (less-over K G m g x (sumOf 3 (i + 1) ss′) e (rw q at l)) at with-line
 
         pub lap-next : length g′ ≤ 512 → (s′ : SumAt) → (s′ .present ≡ true → Inside bytes (s .next) s′)
-            → ((n : ℕ) → NumberedFrom n (sumsAt bytes (s .next) n) → ItemLine bytes n 3 (i + 1) (sumsAt bytes (s .next) n) s′)
+            → ((n : ℕ) → NumberedFrom n (sumsAt bytes (s .next) n) → heldFrom bytes n s′ ≡ sumsAt bytes (s .next) n)
             → LapLinesDone (s .next) (line + 1) i f g′ s′
         lap-next l s′ y t =
-            let skip : laterOverlaps (x ∷ ss′) f i ≡ laterOverlaps ss′ f i = overlaps-skip K wordOrder G x ss′ (overlapsAt ws (behind (cursorOf f))) (i + 1 + 1) (λ r. let z = its-kind h 3 (i + 1) bytes at line s (d .next) p .1 in omega arith) in
+            let few = d .numbered in
+            let z = its-kind h 3 (i + 1) bytes at line s (d .next) p .1 in
+            let low : itemsJudged total (x ∷ ss′) ≡ itemsJudged total ss′ = items-later total x ss′ (above-low total (s .kind) (s .item) (omega arith)) in
+            let skip : laterOverlaps (x ∷ ss′) f i ≡ laterOverlaps ss′ f i = overlaps-skip K wordOrder G x ss′ (overlapsAt ws (behind (cursorOf f))) (i + 1 + 1) (λ r. omega arith) in
             record {
               next = next-line h 3 (i + 1) bytes (s .next) (line + 1) s′ (next-reached h 3 (i + 1) bytes at line s (d .next) p) y t;
               same = rw (q, add-one line) (rw (less-more K G m g x (sumOf 3 (i + 1) ss′) e (rw q at l), skip) at with-line);
+              numbered = d .numbered;
+              below = rw (add-one line) (sym low ∙ rw (lines-are h 3 (i + 1) bytes at line s (d .next) p) at (d .below));
             }
 
-    module _ (p : s .present ≡ false) where
+    module _ (p : firstIs 3 (i + 1) (heldFrom bytes line s) ≡ false) where
       without : thenJudge (overlapVerdict (i + 1) (lessBelow K wordOrder G m g [])) (laterOverlaps (sumsAt bytes at line) f i) ≡ whole
       without = rw (no-line-left h 3 (i + 1) bytes at line s (d .next) p) at (d .same)
 
@@ -169,17 +193,28 @@ module _ (h : Head) (bytes : List ℕ) (G : Family) (ws : List Word) (whole : Ve
       unfolding thenJudge
       lap-wrong c l w o n e z = rw (e, sum-wrong (i + 1) K G m c l w o n z) at without
 
-      pub lap-end : (c l w o : List ℕ) (n : ℕ) → g ≡ formula c l w o n → n ≤ 0 → (f′ : OverlapAt) → seenOverlaps ws f′ ≡ overlapsAt ws (behind (cursorOf f)) → (answer : SumsAnswer) → verdictOf answer ≡ fine
-          → OverlapsDone at line (i + 1) f′ answer
+      pub lap-end : (c l w o : List ℕ) (n : ℕ) → g ≡ formula c l w o n → n ≤ 0 → (f′ : OverlapAt) → seenOverlaps ws f′ ≡ overlapsAt ws (behind (cursorOf f))
+          → OverlapsDone at line (i + 1) f′ s (Through (i + 1) (s .present))
       unfolding thenJudge
-      lap-end c l w o n e z f′ y answer v =
+      lap-end c l w o n e z f′ y =
           let q : n ≡ 0 = omega arith in
           record {
-            reached = next-item h 3 (i + 1) bytes at line s (d .next) p;
+            next = next-item h 3 (i + 1) bytes at line s (d .next) p;
             same = rw y (rw (e, q, sum-right (i + 1) K G m c l w o) at without);
-            told = v;
+            numbered = rw y (d .numbered);
+            below = d .below;
+            told = refl;
           }
 
-  pub overlaps-end : (at line i : ℕ) (f : OverlapAt) (answer : SumsAnswer) → OverlapsDone at line i f answer → f .present ≡ false → verdictOf answer ≡ whole
-  unfolding overlapsJudged
-  overlaps-end at line i f answer d p = d .told ∙ rw (seen-none ws f p) at (d .same)
+  pub overlaps-end : (at line i : ℕ) (f : OverlapAt) (s : SumAt) (answer : LapsAnswer) → OverlapsDone at line i f s answer → f .present ≡ false → lapsVerdictOf answer ≡ whole
+  unfolding overlapsJudged lapsVerdictOf
+  overlaps-end at line i f s answer d p = rw (d .told) (rw (seen-none ws f p) at (d .same))
+
+  -- where no line is left over none was above the count
+  pub overlaps-behind : (at line i : ℕ) (f : OverlapAt) (s : SumAt) (answer : LapsAnswer) → OverlapsDone at line i f s answer → f .present ≡ false
+      → (ss : List SumLine) → items ≡ itemsJudged total ss → LapsBehind total ss answer
+  unfolding LapsBehind itemsJudged heldFrom
+  overlaps-behind at line i f s answer d p ss q = rw (d .told) (count-none ws f i total p (d .numbered), clear)
+    where
+      clear : s .present ≡ false → itemsJudged total ss ≡ fine
+      clear e = let z : sumsAt bytes at line ≡ [] = sym (d .next .held) ∙ rw (heldFrom, e) in sym q ∙ sym (d .below) ∙ ap (itemsJudged total) z

@@ -24,7 +24,7 @@ use Rattle.acceptance.specs.Check.{Verdict, refusal, fine, thenJudge, over, res
 use Rattle.sumlines.specs.declared.SumAt.{SumAt}
 use Rattle.summing.specs.declared.SumsAnswer.{SumsAnswer}
 use Rattle.summing.specs.declared.SumsAnswer.the-variants.{Refused, Passed}
-use Rattle.sumlines.specs.Lines.{sumsAt, heldLine, NumberedFrom, firstIs, ItemLine, Inside, takenLine, LineFits}
+use Rattle.sumlines.specs.Lines.{sumsAt, heldLine, heldFrom, NumberedFrom, firstIs, Inside, takenLine}
 use Rattle.summing.specs.Judged.{verdictOf, Past, all-left, Reached, LeftBehind}
 use Rattle.summing.proofs.LineOrder.{sums-skip, past-one}
 use Rattle.summing.proofs.NextLine.{NextLine, next-line, lines-are, its-kind, its-sum, next-reached, no-line-left, next-item}
@@ -64,29 +64,29 @@ module _ (h : Head) (number kind : ℕ) (bytes : List ℕ) (G : Family) (fs : Li
   abbrev whole : Verdict
   whole = sumsJudged number kind K wordOrder G ss₀ fs 1
 
-  -- The first g items passed.
-  pub record ItemsDone (at line g : ℕ) (answer : SumsAnswer) : Type 0 where
-    pub reached : Reached h kind (g + 1) bytes at line
+  -- The first g items passed, and s is the next line.
+  pub record ItemsDone (at line g : ℕ) (s : SumAt) (answer : SumsAnswer) : Type 0 where
+    pub next : NextLine h kind (g + 1) bytes at line s
     pub past : Past kind ss₀ (sumsAt bytes at line)
     pub same : itemsFrom (sumsAt bytes at line) g ≡ whole
     pub told : answer ≡ Passed at line
 
-  -- In item g + 1 lines were taken away, and f is left; s is the next of its lines.
+  -- In item g + 1 lines were taken away, and f is left; s is the next line.
   pub record LinesDone (at line g : ℕ) (f : Poly) (s : SumAt) : Type 0 where
     pub next : NextLine h kind (g + 1) bytes at line s
     pub past : Past kind ss₀ (sumsAt bytes at line)
     pub same : linesFrom (sumsAt bytes at line) g f ≡ whole
 
-  pub items-start : (from line : ℕ) → ss₀ ≡ sumsAt bytes from line → Reached h kind 1 bytes from line → ItemsDone from line 0 (Passed from line)
-  items-start from line e r = rw e (record { reached = r; past = all-left; same = refl; told = refl })
+  pub items-start : (from line : ℕ) → ss₀ ≡ sumsAt bytes from line → Reached h kind 1 bytes from line → (s : SumAt)
+      → (s .present ≡ true → Inside bytes from s)
+      → ((n : ℕ) → NumberedFrom n (sumsAt bytes from n) → heldFrom bytes n s ≡ sumsAt bytes from n)
+      → ItemsDone from line 0 s (Passed from line)
+  items-start from line e r s i t = rw e (record { next = next-line h kind 1 bytes from line s r i t; past = all-left; same = refl; told = refl })
 
-  pub lines-start : (at line g : ℕ) (answer : SumsAnswer) → ItemsDone at line g answer → g < length fs → (f : Poly) → f ≡ family fs (g + 1) → (s : SumAt)
-      → (s .present ≡ true → Inside bytes at s)
-      → ((n : ℕ) → NumberedFrom n (sumsAt bytes at n) → ItemLine bytes n kind (g + 1) (sumsAt bytes at n) s)
-      → LinesDone at line g f s
+  pub lines-start : (at line g : ℕ) (s : SumAt) (answer : SumsAnswer) → ItemsDone at line g s answer → g < length fs → (f : Poly) → f ≡ family fs (g + 1) → LinesDone at line g f s
   unfolding sumsJudged family
-  lines-start at line g answer d l f e s i t = record {
-    next = next-line h kind (g + 1) bytes at line s (d .reached) i t;
+  lines-start at line g s answer d l f e = record {
+    next = d .next;
     past = d .past;
     same = rw (e, add-one (g + 1), add-one g) (rw (drop-cons fs g [] l, add-one g) at (d .same));
   }
@@ -95,7 +95,7 @@ module _ (h : Head) (number kind : ℕ) (bytes : List ℕ) (G : Family) (fs : Li
     abbrev ss : List SumLine
     ss = sumsAt bytes at line
 
-    module _ (p : s .present ≡ true) where
+    module _ (p : firstIs kind (g + 1) (heldFrom bytes line s) ≡ true) where
       abbrev x : SumLine
       x = heldLine bytes line s
 
@@ -112,7 +112,7 @@ module _ (h : Head) (number kind : ℕ) (bytes : List ℕ) (G : Family) (fs : Li
 
       pub lines-next : (f′ : Poly) → f′ ≡ takeAway K wordOrder G f (takenLine bytes s) → length f′ ≤ 512 → (s′ : SumAt)
           → (s′ .present ≡ true → Inside bytes (s .next) s′)
-          → ((n : ℕ) → NumberedFrom n (sumsAt bytes (s .next) n) → ItemLine bytes n kind (g + 1) (sumsAt bytes (s .next) n) s′)
+          → ((n : ℕ) → NumberedFrom n (sumsAt bytes (s .next) n) → heldFrom bytes n s′ ≡ sumsAt bytes (s .next) n)
           → LinesDone (s .next) (line + 1) g f′ s′
       lines-next f′ e l s′ i t =
           let k = its-kind h kind (g + 1) bytes at line s (d .next) p in
@@ -123,7 +123,7 @@ module _ (h : Head) (number kind : ℕ) (bytes : List ℕ) (G : Family) (fs : Li
             same = rw (e, add-one line) (rw (less-more K wordOrder G f x (sumOf kind (g + 1) ss′) (rw e at l), skip) at with-line);
           }
 
-    module _ (p : s .present ≡ false) where
+    module _ (p : firstIs kind (g + 1) (heldFrom bytes line s) ≡ false) where
       without : thenJudge (sumVerdict number (g + 1) (lessLines K wordOrder G f [])) (itemsFrom ss (g + 1)) ≡ whole
       without = rw (no-line-left h kind (g + 1) bytes at line s (d .next) p) at (d .same)
 
@@ -131,18 +131,18 @@ module _ (h : Head) (number kind : ℕ) (bytes : List ℕ) (G : Family) (fs : Li
       unfolding thenJudge
       lines-wrong c l w o n e z = rw (e, sum-wrong number (g + 1) K wordOrder G c l w o n z) at without
 
-      pub lines-end : (c l w o : List ℕ) (n : ℕ) → f ≡ formula c l w o n → n ≤ 0 → ItemsDone at line (g + 1) (Passed at line)
+      pub lines-end : (c l w o : List ℕ) (n : ℕ) → f ≡ formula c l w o n → n ≤ 0 → ItemsDone at line (g + 1) s (Passed at line)
       unfolding thenJudge
       lines-end c l w o n e z =
           let q : n ≡ 0 = omega arith in
           record {
-            reached = next-item h kind (g + 1) bytes at line s (d .next) p;
+            next = next-item h kind (g + 1) bytes at line s (d .next) p;
             past = d .past;
             same = rw (e, q, sum-right number (g + 1) K wordOrder G c l w o) at without;
             told = refl;
           }
 
-  pub items-end : (count at line g : ℕ) (answer : SumsAnswer) → ItemsDone at line g answer → g ≡ count → length fs ≤ g → {o : List ℕ} → Arranged o
+  pub items-end : (count at line g : ℕ) (s : SumAt) (answer : SumsAnswer) → ItemsDone at line g s answer → g ≡ count → length fs ≤ g → {o : List ℕ} → Arranged o
       → (verdictOf answer ≡ whole) × (LeftBehind h kind count bytes ss₀ answer × Arranged o)
   unfolding verdictOf LeftBehind sumsJudged
-  items-end count at line g answer d e l a = rw (d .told) (rw (drop-of-length-le fs l) at (d .same), ((rw e at (d .reached), d .past), a))
+  items-end count at line g s answer d e l a = rw (d .told) (rw (drop-of-length-le fs l) at (d .same), ((rw e at (d .next .reached), d .past), a))

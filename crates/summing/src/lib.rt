@@ -8,3 +8,9 @@ pub enum SumsAnswer {
     Refused { number: u32, place: usize },
     Passed { at: usize, line: usize },
 }
+
+// What the sums of the overlaps are judged: stopped by a refusal with number and place, or through, with the number of overlaps and whether a line is left over.
+pub enum LapsAnswer {
+    Stopped { number: u32, place: usize },
+    Through { count: usize, left: bool },
+}

@@ -2,7 +2,8 @@
 
 use crate::SumsAnswer;
 use package::Head;
-use sumlines::sum_line::item_line;
+use sumlines::sum_line::is_item;
+use sumlines::sum_line::line_at;
 use sumlines::taking::start_with;
 use sumlines::taking::take_line;
 ghost use mathlib.Core.Path.{_≡_};
@@ -55,6 +56,7 @@ pub fn judge_sums(
 {
     let mut at = from;
     let mut line = first;
+    let mut s = line_at(bytes, from);
     let mut g = 0;
     let mut answer = SumsAnswer::Passed {
         at: from,
@@ -79,8 +81,7 @@ pub fn judge_sums(
             o,
             buf,
         );
-        let mut s = item_line(bytes, at, kind, item);
-        while s.present {
+        while is_item(s, kind, item) {
             n = take_line(
                 h.p,
                 s,
@@ -108,7 +109,7 @@ pub fn judge_sums(
             }
             at = s.next;
             line += 1;
-            s = item_line(bytes, at, kind, item);
+            s = line_at(bytes, at);
         }
         if 0 < n {
             answer = SumsAnswer::Refused {
