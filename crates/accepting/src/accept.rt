@@ -24,9 +24,9 @@ fn check_read(
     at: usize,
     line: usize,
     c: &mut [u32],
-    l: &mut [usize],
+    l: &mut [u16],
     w: &mut [u8],
-    o: &mut [usize],
+    o: &mut [u16],
     buf: &mut [u8],
 ) -> Accepting
     requires { ⌜ PackageRead (now «package») (now coefs) (now starts) (now lens) (now firsts) h m at line ⌝ }
@@ -76,9 +76,9 @@ pub fn accept(
     lens: &mut [usize],
     firsts: &mut [usize],
     c: &mut [u32],
-    l: &mut [usize],
+    l: &mut [u16],
     w: &mut [u8],
-    o: &mut [usize],
+    o: &mut [u16],
     buf: &mut [u8],
 ) -> Accepting
     requires { ⌜ (length (now coefs) ≡ 1024) × (length (now starts) ≡ 1024) × (length (now lens) ≡ 1024) × (length (now firsts) ≡ 98) ⌝ }

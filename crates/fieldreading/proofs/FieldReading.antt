@@ -72,16 +72,16 @@ number-of-last f = go (number f) (pieces 32 f) refl refl
     go Wrong (piece g ps) a b = refl
     go (Value v) (piece g ps) a b = absurd (let q = number-one-field f v a in let y : _≡_ {A = ℕ} 0 1 = cc in omega arith)
 
--- A word with another field behind it.
-module _ (l : List ℕ) (at e : ℕ) (h : e ≡ at + stop 32 (drop at l)) where
-  pub word-end : length l ≤ e → noneWord ≡ wordThen (pieces 32 (drop at l))
+-- A word with another piece behind it: pieces are ended by the byte b.
+module _ (b : ℕ) (l : List ℕ) (at e : ℕ) (h : e ≡ at + stop b (drop at l)) where
+  pub word-end : length l ≤ e → noneWord ≡ wordThen (pieces b (drop at l))
   unfolding wordThen
-  word-end k = rw (cut-end 32 l at e h k)
+  word-end k = rw (cut-end b l at e h k)
 
   pub word-some : (w : List ℕ) → e < length l → wordOf (take (e - at) (drop at l)) ≡ word w
-      → someWord w (pieces 32 (drop (e + 1) l)) ≡ wordThen (pieces 32 (drop at l))
+      → someWord w (pieces b (drop (e + 1) l)) ≡ wordThen (pieces b (drop at l))
   unfolding wordThen gotWordOf
-  word-some w k q = rw (cut-more 32 l at e h k, q)
+  word-some w k q = rw (cut-more b l at e h k, q)
 
 module _ (l : List ℕ) (at : ℕ) (r : WordAt) (x : GotWord) where
   pub seen-none-word : r ≡ NoWordAt → seenWordAt l at r ≡ x → x ≡ noneWord

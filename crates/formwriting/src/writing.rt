@@ -27,7 +27,7 @@ fn row_len(c: u32, v: &[u8]) -> usize
 }
 
 // How many bytes the formula of n terms has.
-pub fn text_len(c: &[u32], l: &[usize], w: &[u8], o: &[usize], n: usize) -> usize
+pub fn text_len(c: &[u32], l: &[u16], w: &[u8], o: &[u16], n: usize) -> usize
     requires { ⌜ Holds (now c) (now l) (now w) (now o) n ⌝ }
     requires { ⌜ n ≤ 65536 ⌝ }
     ensures { λ r. ⌜ r ≡ length (writeFormula (formula (now (c .entry)) (now (l .entry)) (now (w .entry)) (now (o .entry)) n)) ⌝ }
@@ -58,7 +58,7 @@ fn put_row(out: &mut [u8], at: usize, c: u32, v: &[u8]) -> usize
 }
 
 // The formula of n terms, written to the front of out. The answer is how many bytes it has.
-pub fn write_text(c: &[u32], l: &[usize], w: &[u8], o: &[usize], n: usize, out: &mut [u8]) -> usize
+pub fn write_text(c: &[u32], l: &[u16], w: &[u8], o: &[u16], n: usize, out: &mut [u8]) -> usize
     requires { ⌜ Holds (now c) (now l) (now w) (now o) n ⌝ }
     requires { ⌜ length (writeFormula (formula (now c) (now l) (now w) (now o) n)) ≤ length (now out) ⌝ }
     ensures { λ r. ⌜ r ≡ length (writeFormula (formula (now (c .entry)) (now (l .entry)) (now (w .entry)) (now (o .entry)) n)) ⌝ }

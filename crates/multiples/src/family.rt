@@ -33,9 +33,9 @@ pub fn add_numbered(
     count: usize,
     m: usize,
     c: &mut [u32],
-    l: &mut [usize],
+    l: &mut [u16],
     w: &mut [u8],
-    o: &mut [usize],
+    o: &mut [u16],
     n: usize,
     buf: &mut [u8],
 ) -> usize

@@ -2,3 +2,4 @@
 
 pub mod family;
 pub mod multiple;
+pub mod placing;

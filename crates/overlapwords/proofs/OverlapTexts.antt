@@ -8,18 +8,18 @@ use lib.ListN.{length, getD, take, drop, length-take, length-drop}
 use lib.Seq.{take-take, drop-drop}
 use Rattle.field.specs.Field.{Operations, Field}
 use Rattle.words.specs.Word.{Word, around}
-use Rattle.words.specs.Order.{Order}
+use Rattle.words.specs.Order.{Order, Admissible}
 use Rattle.words.specs.Laid.{laidWord, laidWords, Laid}
 use Rattle.words.proofs.LaidWords.{laid-at}
 use Rattle.algebra.specs.Poly.{Term, Poly, scale, shift, sub}
 use Rattle.algebra.specs.Ideal.{Family, family, Line}
 use Rattle.algebra.specs.Groebner.{lead, top}
 use Rattle.algebra.specs.Written as Wr
+use Rattle.algebra.proofs.WrittenForm.{written-multiple, written-of-written}
 use Rattle.algebra.specs.Written.{Written, plus, written}
 use Rattle.overlaps.specs.Overlaps.{Overlap, leads, overlapWord, difference}
 use Rattle.overlaps.specs.Position.{overlapOf}
 use Rattle.package.specs.Bounds.{isBelow}
-use Rattle.working.specs.Working.{terms, formula}
 use Rattle.working.specs.Family.{familyAt}
 use Rattle.overlapwords.specs.declared.OverlapAt.{OverlapAt}
 use Rattle.sumlines.specs.declared.SumAt.{SumAt}
@@ -97,15 +97,19 @@ module _ {K : Operations} (F : Field K) (O : Order) where
   plus-append f [] k = refl
   plus-append f (t ∷ g) k = plus-append (Wr.insert K O t f) g k
 
+  -- a product is in written form
+  pub product-written : Admissible O → (l r : Word) (f : Poly) → Written K O f → Written K O (shift l r f)
+  product-written A l r f h = rw (scale-shift l r f h) at (written-multiple F A 1 l r (λ e. absurd (omega (arith, e, F .red-elem 1 (F .one-lt)))) h)
+
   -- the difference, added up in two parts
-  pub difference-held : (G : Family) (o : Overlap) (c l w o′ : List ℕ) (f₁ f₂ : Poly) (u v : Word) → Written K O (G (o .first))
+  pub difference-held : Admissible O → (G : Family) (o : Overlap) (f₁ f₂ : Poly) (u v : Word) → Written K O (G (o .first))
       → v ≡ drop (o .shared) (lead (G (o .second))) → u ≡ take (length (lead (G (o .first))) - o .shared) (lead (G (o .first)))
-      → f₁ ≡ plus K O (formula c l w o′ 0) (scale K 1 (shift [] v (G (o .first))))
+      → f₁ ≡ shift [] v (G (o .first))
       → f₂ ≡ plus K O f₁ (scale K (K .neg 1) (shift u [] (G (o .second))))
       → f₂ ≡ written K O (difference K G o)
-  unfolding terms written difference sub
-  difference-held G o c l w o′ f₁ f₂ u v h ev eu e₁ e₂ =
-      e₂ ∙ ap (λ (f : Poly). plus K O f (scale K (K .neg 1) (shift u [] (G (o .second))))) (e₁ ∙ ap (λ (g : Poly). plus K O [] g) (scale-shift [] v (G (o .first)) h))
+  unfolding written difference sub
+  difference-held A G o f₁ f₂ u v h ev eu e₁ e₂ =
+      e₂ ∙ ap (λ (f : Poly). plus K O f (scale K (K .neg 1) (shift u [] (G (o .second))))) (e₁ ∙ sym (written-of-written F A (product-written A [] v (G (o .first)) h)))
       ∙ sym (plus-append [] (shift [] v (G (o .first))) (scale K (K .neg 1) (shift u [] (G (o .second)))))
       ∙ rw (ev, eu)
 

@@ -4,6 +4,7 @@ use crate::OverlapAt;
 use field::arithmetic::neg;
 use linetests::bounds::is_below;
 use multiples::family::add_numbered;
+use multiples::placing::place_numbered;
 use sumlines::SumAt;
 use working::letters::compose;
 ghost use mathlib.Core.Path.{_≡_};
@@ -107,9 +108,9 @@ pub fn start_difference(
     count: usize,
     m: usize,
     c: &mut [u32],
-    l: &mut [usize],
+    l: &mut [u16],
     w: &mut [u8],
-    o: &mut [usize],
+    o: &mut [u16],
     buf: &mut [u8],
 ) -> usize
     requires { ⌜ (p ≤ 65536) × Field (fieldOf p) ⌝ }
@@ -133,9 +134,8 @@ pub fn start_difference(
     let behind = heads[second] + shared;
     let rest = headlens[second] - shared;
     let x = neg(p, 1);
-    let k = add_numbered(
+    let k = place_numbered(
         p,
-        1,
         bytes,
         0,
         0,
@@ -155,7 +155,6 @@ pub fn start_difference(
         l,
         w,
         o,
-        0,
         buf,
     );
     add_numbered(

@@ -2,11 +2,12 @@
 use mathlib.Core.Path.{_≡_, sym, ap, _∙_}
 use mathlib.Core.Bool.{Bool, true, false}
 use mathlib.Core.List.{List}
-use Prim.Native.Nat.{ℕ, _+_, _≤_}
+use Prim.Native.Nat.{ℕ, suc, _+_, _≤_, _<_}
+use lib.ListN.{length, drop}
 use Rattle.package.specs.Bounds.{coefFits, wordFits}
-use Rattle.package.specs.Held.{seenSum, reachLeft, reachRight, seenSumJudged}
+use Rattle.package.specs.Held.{seenSum, SumInside, seenSumJudged, JudgedInside}
 use Rattle.package.specs.Names.{sumKinds}
-use Rattle.package.specs.Sums.{SumForm, noSum, sum, sumForm, sumItemFits, ofs, sumFits, sumFollows, SumVerdict, refuse3, accept3, judged3, judgeSum}
+use Rattle.package.specs.Sums.{noSum, sum, sumForm, sumItemFits, ofs, sumFits, sumFollows, refuse3, accept3, judged3, judgeSum, Block3, refused3, block3, GotSum, noneSum, someSum}
 use Rattle.package.specs.declared.Head.{Head}
 use Rattle.package.specs.declared.Limits.{Limits}
 use Rattle.package.specs.declared.SumJudged.{SumJudged}
@@ -16,7 +17,7 @@ use Rattle.package.specs.declared.SumRead.the-variants.{Shapeless, Sum}
 use Rattle.text.specs.Bytes.{within}
 use Rattle.text.specs.Field.{none, some, numThen, noneWord, someWord, wordThen, wordLast, rank}
 use Rattle.text.specs.Number.{number}
-use Rattle.text.specs.Pieces.{Pieces, fields, part}
+use Rattle.text.specs.Pieces.{Pieces, fields, lines, part}
 use Rattle.text.specs.Word.{noWord, word}
 
 -- The six fields.
@@ -82,23 +83,20 @@ module _ (h : Head) (lim : Limits) (k i c : ℕ) (l : List ℕ) (o : ℕ) (r : L
         unfolding sumFits
         sum-5-right e = rw (sumFits, a, b, d, e)
 
-module _ (l : List ℕ) (r : SumRead) (x : SumForm) where
-  pub seen-shapeless : r ≡ Shapeless → seenSum l r ≡ x → x ≡ noSum
+-- What an answer says of the line that was read.
+module _ (s : List ℕ) (r : SumRead) (x : GotSum) where
+  pub seen-shapeless : r ≡ Shapeless → seenSum s r ≡ x → x ≡ noneSum
   unfolding seenSum
   seen-shapeless q h = sym h ∙ rw q
 
-  pub seen-sum : (k i c a m o b n : ℕ) → r ≡ Sum k i c a m o b n → seenSum l r ≡ x → x ≡ sum k i c (part l a m) o (part l b n)
+  pub seen-sum : (k i c a m o b n e : ℕ) → r ≡ Sum k i c a m o b n e → seenSum s r ≡ x → x ≡ someSum k i c (part s a m) o (part s b n) (lines (drop e s))
   unfolding seenSum
-  seen-sum k i c a m o b n q h = sym h ∙ rw q
+  seen-sum k i c a m o b n e q h = sym h ∙ rw q
 
-module _ (r : SumRead) (k i c a m o b n z : ℕ) (q : r ≡ Sum k i c a m o b n) where
-  pub left-le : reachLeft r ≤ z → a + m ≤ z
-  unfolding reachLeft
-  left-le h = rw q at h
-
-  pub right-le : reachRight r ≤ z → b + n ≤ z
-  unfolding reachRight
-  right-le h = rw q at h
+pub sum-inside : (s : List ℕ) (at : ℕ) (r : SumRead) (k i c a m o b n e : ℕ) → r ≡ Sum k i c a m o b n e → SumInside s at r → (a + m ≤ length s) ×
+    (b + n ≤ length s) × (at < e) × (e ≤ length s)
+unfolding SumInside
+sum-inside s at r k i c a m o b n e q h = rw q at h
 
 -- Refusals 2, 5, 6 and a line in order.
 module _ (h : Head) (lim : Limits) (k′ i′ : ℕ) (line : List ℕ) where
@@ -120,11 +118,16 @@ module _ (h : Head) (lim : Limits) (k′ i′ : ℕ) (line : List ℕ) where
       unfolding judgeSum judged3
       judge3-0 d = rw (judgeSum, a, judged3, b, d)
 
-module _ (r : SumJudged) (x : SumVerdict) where
-  pub seen-reject : (v : ℕ) → r ≡ Reject v → seenSumJudged r ≡ x → x ≡ refuse3 v
+-- What an answer says of the line that was judged.
+module _ (h : Head) (lim : Limits) (s : List ℕ) (n : ℕ) (r : SumJudged) (x : Block3) where
+  pub seen-reject : (v : ℕ) → r ≡ Reject v → seenSumJudged h lim s n r ≡ x → refused3 v n ≡ x
   unfolding seenSumJudged
-  seen-reject v q h = sym h ∙ rw q
+  seen-reject v q h = rw q at h
 
-  pub seen-admit : (k i : ℕ) → r ≡ Admit k i → seenSumJudged r ≡ x → x ≡ accept3 k i
+  pub seen-admit : (k i e : ℕ) → r ≡ Admit k i e → seenSumJudged h lim s n r ≡ x → block3 h lim k i (suc n) (lines (drop e s)) ≡ x
   unfolding seenSumJudged
-  seen-admit k i q h = sym h ∙ rw q
+  seen-admit k i e q h = rw q at h
+
+pub judged-inside : (s : List ℕ) (at : ℕ) (r : SumJudged) (k i e : ℕ) → r ≡ Admit k i e → JudgedInside s at r → (at < e) × (e ≤ length s)
+unfolding JudgedInside
+judged-inside s at r k i e q h = rw q at h

@@ -94,7 +94,7 @@ module _ (ps : Pieces) (k i c : ℕ) (l : List ℕ) (o : ℕ) (r : List ℕ) (h 
   sum-text = by-kind (numThen (rank sumKinds) ps) refl
 
 -- The kinds of block 3.
-known-kind : (k : ℕ) → (1 ≤ k) × (k ≤ 3) → rank sumKinds (writeKind sumKinds k) ≡ Value k
+pub known-kind : (k : ℕ) → (1 ≤ k) × (k ≤ 3) → rank sumKinds (writeKind sumKinds k) ≡ Value k
 unfolding rank rankFrom writeKind
 known-kind zero b = absurd (omega arith)
 known-kind (suc zero) b = refl
@@ -102,7 +102,7 @@ known-kind (suc (suc zero)) b = refl
 known-kind (suc (suc (suc zero))) b = refl
 known-kind (suc (suc (suc (suc k)))) b = absurd (omega arith)
 
-kind-clear : (b k : ℕ) → b < 48 → (1 ≤ k) × (k ≤ 3) → Without b (writeKind sumKinds k)
+pub kind-clear : (b k : ℕ) → b < 48 → (1 ≤ k) × (k ≤ 3) → Without b (writeKind sumKinds k)
 unfolding writeKind
 kind-clear b zero h r = absurd (omega arith)
 kind-clear b (suc zero) h r = apart {x = 66} (λ (e : 66 ≡ b). omega arith) empty

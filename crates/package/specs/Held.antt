@@ -8,7 +8,7 @@ use Rattle.package.specs.Formula.{FormulaOutcome, wrongAt, formula, Term
 use Rattle.package.specs.Head.{HeadForm, noHead, head}
 use Rattle.package.specs.Items.{slot, firstOf}
 use Rattle.package.specs.Package.{Outcome, refused, read}
-use Rattle.package.specs.Sums.{SumForm, noSum, sum, SumVerdict, refuse3, accept3, Block3, refused3, fine, sumsOf}
+use Rattle.package.specs.Sums.{GotSum, noneSum, someSum, Block3, refused3, fine, block3, sumsOf}
 use Rattle.package.specs.Terms.{TermLine, TermForm, noTerm, term, LineAbove, TermVerdict, refuse, accept, Block2, refused2, ended2}
 use Rattle.package.specs.declared.Ended.{Ended}
 use Rattle.package.specs.declared.Ended.the-variants.{Refused, Names}
@@ -18,6 +18,7 @@ use Rattle.package.specs.declared.Head.{Head}
 use Rattle.package.specs.declared.HeadRead.{HeadRead}
 use Rattle.package.specs.declared.HeadRead.the-variants.{NoCounts, Counts}
 use Rattle.package.specs.declared.Last.{Last}
+use Rattle.package.specs.declared.Limits.{Limits}
 use Rattle.package.specs.declared.Reading.{Reading}
 use Rattle.package.specs.declared.Reading.the-variants.{Refusal, Whole}
 use Rattle.package.specs.declared.RowRead.{RowRead}
@@ -32,8 +33,11 @@ use Rattle.package.specs.declared.TermJudged.{TermJudged}
 use Rattle.package.specs.declared.TermJudged.the-variants.{Refuse, Accept}
 use Rattle.package.specs.declared.TermRead.{TermRead}
 use Rattle.package.specs.declared.TermRead.the-variants.{Misshapen, Shaped}
+use Rattle.text.specs.Field.{GotWord, noneWord, someWord}
 use Rattle.text.specs.Pieces.{pieces, lines, part}
 use Rattle.text.specs.Word.{word}
+use Rattle.text.specs.declared.WordAt.{WordAt}
+use Rattle.text.specs.declared.WordAt.the-variants.{NoWordAt, Spans}
 
 -- The value line of block 1.
 unfoldable pub seenHead : HeadRead → HeadForm
@@ -99,23 +103,33 @@ unfolding slot
 slotsHeld h ks is zero = []
 slotsHeld h ks is (suc n) = slotsHeld h ks is n ++ (slot h (getD ks n 0) (getD is n 0) ∷ [])
 
--- A sum line of the line l, and where its words end.
-unfoldable pub seenSum : List ℕ → SumRead → SumForm
-seenSum l Shapeless = noSum
-seenSum l (Sum k i c a m o b n) = sum k i c (part l a m) o (part l b n)
+-- A word read in the text s from the place at on, with the lines behind it.
+unfoldable pub seenLineWord : List ℕ → ℕ → WordAt → GotWord
+unfolding pieces
+seenLineWord s at NoWordAt = noneWord
+seenLineWord s at (Spans n e) = someWord (part s at n) (lines (drop e s))
 
-unfoldable pub reachLeft : SumRead → ℕ
-reachLeft Shapeless = 0
-reachLeft (Sum k i c a m o b n) = a + m
+-- A sum line read in the text s, with the lines behind it.
+unfoldable pub seenSum : List ℕ → SumRead → GotSum
+unfolding pieces
+seenSum s Shapeless = noneSum
+seenSum s (Sum k i c a m o b n e) = someSum k i c (part s a m) o (part s b n) (lines (drop e s))
 
-unfoldable pub reachRight : SumRead → ℕ
-reachRight Shapeless = 0
-reachRight (Sum k i c a m o b n) = b + n
+-- If it stands at the place at, its words lie in the text, and it ends behind the place.
+unfoldable pub SumInside : List ℕ → ℕ → SumRead → Type 0
+SumInside s at Shapeless = Unit {0}
+SumInside s at (Sum k i c a m o b n e) = (a + m ≤ length s) × (b + n ≤ length s) × (at < e) × (e ≤ length s)
 
--- What a sum line is judged.
-unfoldable pub seenSumJudged : SumJudged → SumVerdict
-seenSumJudged (Reject r) = refuse3 r
-seenSumJudged (Admit k i) = accept3 k i
+-- What line n of the text s is judged: block 3 ends with a refusal, or it goes on behind the line.
+unfoldable pub seenSumJudged : Head → Limits → List ℕ → ℕ → SumJudged → Block3
+unfolding block3 pieces
+seenSumJudged h lim s n (Reject r) = refused3 r n
+seenSumJudged h lim s n (Admit k i e) = block3 h lim k i (suc n) (lines (drop e s))
+
+-- If it stands at the place at, it ends behind the place.
+unfoldable pub JudgedInside : List ℕ → ℕ → SumJudged → Type 0
+JudgedInside s at (Reject r) = Unit {0}
+JudgedInside s at (Admit k i e) = (at < e) × (e ≤ length s)
 
 -- Block 3.
 unfoldable pub seen3 : Sums → Block3

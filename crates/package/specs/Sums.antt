@@ -109,6 +109,22 @@ unfolding judgeSum atEnd
 block3 h m k′ i′ n (final x) = atEnd n x
 block3 h m k′ i′ n (piece l ls) = elim (judgeSum h m k′ i′ l) [ refuse3 r ↦ refused3 r n | accept3 k i ↦ block3 h m k i (suc n) ls ]
 
+-- A sum line and the lines behind it.
+pub data GotSum : Type 0 where
+  noneSum : GotSum
+  someSum : ℕ → ℕ → ℕ → List ℕ → ℕ → List ℕ → Pieces → GotSum
+
+-- What a line says, with the lines behind it.
+unfoldable pub gotSumOf : SumForm → Pieces → GotSum
+gotSumOf noSum ls = noneSum
+gotSumOf (sum k i c l o r) ls = someSum k i c l o r ls
+
+-- The first line, which is ended, and is a sum line.
+unfoldable pub sumThen : Pieces → GotSum
+unfolding gotSumOf sumForm pieces
+sumThen (final x) = noneSum
+sumThen (piece l ls) = gotSumOf (sumForm (fields l)) ls
+
 -- The sum lines from line n on, with their numbers.
 unfoldable pub withSum : ℕ → SumForm → List SumLine → List SumLine
 withSum n noSum xs = xs

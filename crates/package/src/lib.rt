@@ -72,7 +72,7 @@ pub enum Ended {
     },
 }
 
-// What a line says as a sum line: its words are the letters from left and from right on.
+// What the line at a place of a text says as a sum line: its words are the letters from left and from right on, and the line behind it starts at next.
 pub enum SumRead {
     Shapeless,
     Sum {
@@ -84,13 +84,14 @@ pub enum SumRead {
         of: u32,
         right: usize,
         right_len: usize,
+        next: usize,
     },
 }
 
-// What a sum line is judged: refused by a number, or in order, with its kind and item.
+// What a sum line is judged: refused by a number, or in order, with its kind and item, and where the line behind it starts.
 pub enum SumJudged {
     Reject(u32),
-    Admit { kind: u32, item: u32 },
+    Admit { kind: u32, item: u32, next: usize },
 }
 
 // What block 3 is judged.

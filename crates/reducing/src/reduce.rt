@@ -75,9 +75,9 @@ fn reduce_read(
     fl: &[usize],
     budget: u32,
     c: &mut [u32],
-    l: &mut [usize],
+    l: &mut [u16],
     w: &mut [u8],
-    o: &mut [usize],
+    o: &mut [u16],
     buf: &mut [u8],
 ) -> Reduced
     requires { ⌜ PackageAccepted (now «package») (now coefs) (now starts) (now lens) (now firsts) h m ⌝ }
@@ -140,9 +140,9 @@ fn reduce_formula(
     text: &[u8],
     budget: u32,
     c: &mut [u32],
-    l: &mut [usize],
+    l: &mut [u16],
     w: &mut [u8],
-    o: &mut [usize],
+    o: &mut [u16],
     buf: &mut [u8],
 ) -> Reduced
     requires { ⌜ PackageAccepted (now «package») (now coefs) (now starts) (now lens) (now firsts) h m ⌝ }
@@ -188,12 +188,12 @@ pub fn reduce(
     text: &[u8],
     budget: u32,
     c: &mut [u32],
-    l: &mut [usize],
+    l: &mut [u16],
     w: &mut [u8],
-    o: &mut [usize],
+    o: &mut [u16],
 ) -> Reduced
     requires { ⌜ Room (now c) (now l) (now w) (length (now o)) ⌝ }
-    requires { ⌜ 560 ≤ length (now o) ⌝ }
+    requires { ⌜ (560 ≤ length (now o)) × (length (now o) ≤ 65536) ⌝ }
     ensures { λ r. ⌜ seenReduced (now (c .exit)) (now (l .exit)) (now (w .exit)) (now (o .exit)) r ≡ reduction (now («package» .entry)) (now (text .entry)) budget ⌝ }
     ensures { λ r. ⌜ ShortHeld (now (c .exit)) (now (l .exit)) (now (w .exit)) (now (o .exit)) r ⌝ }
 {

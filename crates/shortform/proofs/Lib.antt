@@ -1,2 +1,1 @@
 -- The laws that this crate's functions are proved by.
-pub mod Loaded

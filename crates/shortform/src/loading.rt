@@ -1,6 +1,6 @@
 // A formula that was read, brought into the working arrays.
 
-use multiples::multiple::add_multiple;
+use multiples::placing::place_product;
 use working::formula::start;
 ghost use mathlib.Core.Path.{_≡_};
 ghost use Prim.Native.Nat.{_≤_};
@@ -20,16 +20,16 @@ pub fn load(
     fl: &[usize],
     bytes: &[u8],
     c: &mut [u32],
-    l: &mut [usize],
+    l: &mut [u16],
     w: &mut [u8],
-    o: &mut [usize],
+    o: &mut [u16],
     buf: &mut [u8],
 ) -> usize
     requires { ⌜ (p ≤ 65536) × Field (fieldOf p) ⌝ }
     requires { ⌜ Given p (now fc) (now fs) (now fl) (now bytes) ⌝ }
     requires { ⌜ Written (fieldOf p) wordOrder (polyAt (now fc) (now fs) (now fl) (now bytes)) ⌝ }
     requires { ⌜ Room (now c) (now l) (now w) (length (now o)) ⌝ }
-    requires { ⌜ (length (now fc) ≤ length (now o)) × (72 ≤ length (now buf)) ⌝ }
+    requires { ⌜ (length (now fc) ≤ length (now o)) × (length (now o) ≤ 65536) × (72 ≤ length (now buf)) ⌝ }
     ensures { λ r. ⌜ r ≡ length (now (fc .entry)) ⌝ }
     ensures { λ r. ⌜ Working p (now (c .exit)) (now (l .exit)) (now (w .exit)) (now (o .exit)) r ⌝ }
     ensures { λ r. ⌜
@@ -38,9 +38,8 @@ pub fn load(
         ⌝ }
 {
     start(o);
-    add_multiple(
+    place_product(
         p,
-        1,
         bytes,
         0,
         0,
@@ -55,7 +54,6 @@ pub fn load(
         l,
         w,
         o,
-        0,
         buf,
     )
 }

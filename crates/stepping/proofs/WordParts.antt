@@ -5,7 +5,7 @@ use mathlib.Core.List.{List, [], _∷_, _++_}
 use Prim.Native.Nat.{ℕ, zero, suc, _+_, _-_, _≤_}
 use native.Mathlib.Omega.{arith}
 use lib.ListN.{length, take, drop, length-append, length-drop}
-use lib.Seq.{take-take, drop-drop, length-take-le, sets-eq, sets, take-at}
+use lib.Seq.{take-take, drop-drop, length-take-le}
 use Rattle.words.specs.Word.{Word}
 use Rattle.algebra.specs.Poly.{Poly}
 use Rattle.algebra.specs.Ideal.{family}
@@ -63,13 +63,6 @@ module _ (w : List ℕ) (start end i n : ℕ) (h : start + i + n ≤ end) where
       let a : end - start - (i + n) ≡ end - (start + i + n) = omega arith in
       let b : start + (i + n) ≡ start + i + n = omega arith in
       sym (drop-take (i + n) (end - start) (drop start w) ∙ rw (drop-drop (i + n) start w, a, b))
-
--- letters stored at the front are the first letters
-pub front-stored : (b v : List ℕ) (r : ℕ) → r ≡ length v → length v ≤ length b → take r (sets b 0 v) ≡ v
-front-stored b v r e h = rw (e, sets-eq v b 0 (omega arith)) (take-front v (drop (0 + length v) b))
-  where
-    take-front : (x y : List ℕ) → take (length x) ((take 0 b ++ x) ++ y) ≡ x
-    take-front x y = take-at x y (length x) refl
 
 pub part-size : (w : List ℕ) (a b : ℕ) → a ≤ b → b ≤ length w → length (take (b - a) (drop a w)) ≡ b - a
 part-size w a b h k = length-take-le (b - a) (drop a w) (rw length-drop (omega arith))

@@ -13,9 +13,9 @@ ghost use Rattle.shortform.specs.Search.{FindsTarget, SpotsTerm};
 pub fn spot_term(
     index: &[u64],
     c: &[u32],
-    l: &[usize],
+    l: &[u16],
     w: &[u8],
-    o: &[usize],
+    o: &[u16],
     n: usize,
     k: usize,
 ) -> Spotted
@@ -34,9 +34,9 @@ pub fn spot_term(
 pub fn find_target(
     index: &[u64],
     c: &[u32],
-    l: &[usize],
+    l: &[u16],
     w: &[u8],
-    o: &[usize],
+    o: &[u16],
     n: usize,
     from: usize,
 ) -> Next

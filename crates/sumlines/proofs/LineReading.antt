@@ -1,19 +1,17 @@
 -- The sum line at a place of the bytes: one law for each way through its reader.
-use mathlib.Core.Path.{_≡_, refl, sym, ap, _∙_}
+use mathlib.Core.Path.{_≡_, refl, sym, ap, ap₂, _∙_}
 use mathlib.Core.Bool.{Bool, true, false, true≢false}
 use mathlib.Core.Logic.{_≢_}
 use mathlib.Core.List.{List, [], _∷_}
-use Prim.Native.Nat.{ℕ, suc, _+_, _-_, _≤_, _<_}
+use Prim.Native.Nat.{ℕ, suc, _<_}
 use native.Mathlib.Omega.{arith}
 use lib.Dec.{eqb}
-use lib.ListN.{length, drop, take}
-use lib.Seq.{drop-drop}
+use lib.ListN.{drop}
 use borrow.Author.Tests.{eq-eqb, ne-eqb}
-use Rattle.text.specs.Pieces.{Pieces, final, piece, pieces, lines, fields, stop, part}
-use Rattle.text.proofs.Cutting.{cut-more, cut-end, part-part}
-use Rattle.package.specs.Sums.{SumLine, SumForm, noSum, sum, sumForm, withSum, sumsOf}
+use Rattle.text.specs.Pieces.{Pieces, final, piece, lines, fields, part}
+use Rattle.package.specs.Sums.{SumForm, noSum, sum, sumForm, withSum, sumsOf, noneSum, someSum, gotSumOf, sumThen}
 use Rattle.sumlines.specs.declared.SumAt.{SumAt}
-use Rattle.sumlines.specs.Lines.{sumsAt, heldLine, heldFrom, NumberedFrom, firstIs, Inside}
+use Rattle.sumlines.specs.Lines.{sumsAt, heldLine, heldFrom, NumberedFrom, firstIs}
 
 -- lines numbered from m on, none of which has a lower number
 none-lower : (m n : ℕ) (ls : Pieces) → n < m → NumberedFrom n (sumsOf m ls) → sumsOf m ls ≡ []
@@ -29,35 +27,41 @@ held-none : (bytes : List ℕ) (n : ℕ) (r : SumAt) → r .present ≡ false �
 unfolding heldFrom
 held-none bytes n r e = rw (heldFrom, e)
 
-module _ (bytes : List ℕ) (at e : ℕ) (q : e ≡ at + stop 10 (drop at bytes)) where
-  -- no line is ended
-  pub line-unended : length bytes ≤ e → (r : SumAt) → r .present ≡ false → (n : ℕ) → heldFrom bytes n r ≡ sumsAt bytes at n
-  unfolding sumsOf
-  line-unended h r p n = held-none bytes n r p ∙ rw (cut-end 10 bytes at e q h)
+-- no sum line, or none that is ended
+none-held : (n : ℕ) (ps : Pieces) → sumThen ps ≡ noneSum → NumberedFrom n (sumsOf n ps) → sumsOf n ps ≡ []
+unfolding sumThen gotSumOf sumsOf withSum NumberedFrom
+none-held n (final x) q k = refl
+none-held n (piece l ls) q k = go (sumForm (fields l)) q k
+  where
+    go : (x : SumForm) → gotSumOf x ls ≡ noneSum → NumberedFrom n (withSum n x (sumsOf (suc n) ls)) → withSum n x (sumsOf (suc n) ls) ≡ []
+    go noSum u v = none-lower (suc n) n ls (omega arith) v
+    go (sum k′ i c l′ o r) u v = absurd (let y : _≡_ {A = ℕ} 0 1 = cc in omega arith)
 
-  module _ (h : e < length bytes) where
-    cut : (n : ℕ) → sumsAt bytes at n ≡ withSum n (sumForm (fields (part bytes at (e - at)))) (sumsAt bytes (e + 1) (suc n))
-    unfolding sumsOf
-    cut n = rw (cut-more 10 bytes at e q h)
+pub line-none : (bytes : List ℕ) (at : ℕ) → sumThen (lines (drop at bytes)) ≡ noneSum → (r : SumAt) → r .present ≡ false → (n : ℕ)
+    → NumberedFrom n (sumsAt bytes at n) → heldFrom bytes n r ≡ sumsAt bytes at n
+line-none bytes at q r p n k = held-none bytes n r p ∙ sym (none-held n (lines (drop at bytes)) q k)
 
-    -- the line is no sum line
-    pub line-shapeless : sumForm (fields (part bytes at (e - at))) ≡ noSum → (r : SumAt) → r .present ≡ false → (n : ℕ) → NumberedFrom n (sumsAt bytes at n) → heldFrom bytes n r ≡ sumsAt bytes at n
-    unfolding withSum
-    line-shapeless f r p n k =
-        let c : sumsAt bytes at n ≡ sumsAt bytes (e + 1) (suc n) = rw f at (cut n) in
-        held-none bytes n r p ∙ sym (c ∙ none-lower (suc n) n (lines (drop (e + 1) bytes)) (omega arith) (rw c at k))
+-- a sum line
+some-held : (n k i c : ℕ) (l : List ℕ) (o : ℕ) (r : List ℕ) (ls ps : Pieces) → sumThen ps ≡ someSum k i c l o r ls
+    → withSum n (sum k i c l o r) (sumsOf (suc n) ls) ≡ sumsOf n ps
+unfolding sumThen gotSumOf sumsOf
+some-held n k i c l o r ls (final x) q = absurd (let y : _≡_ {A = ℕ} 0 1 = cc in omega arith)
+some-held n k i c l o r ls (piece x ms) q = go (sumForm (fields x)) refl q
+  where
+    go : (f : SumForm) → sumForm (fields x) ≡ f → gotSumOf f ms ≡ someSum k i c l o r ls
+        → withSum n (sum k i c l o r) (sumsOf (suc n) ls) ≡ withSum n (sumForm (fields x)) (sumsOf (suc n) ms)
+    go noSum e u = absurd (let y : _≡_ {A = ℕ} 0 1 = cc in omega arith)
+    go (sum k₁ i₁ c₁ l₁ o₁ r₁) e u =
+        let p : sum k i c l o r ≡ sum k₁ i₁ c₁ l₁ o₁ r₁ = cc in
+        let w : ls ≡ ms = cc in
+        ap₂ (λ f (zs : Pieces). withSum n f (sumsOf (suc n) zs)) (p ∙ sym e) w
 
-    -- a part of the line
-    in-line : (a m : ℕ) → a + m ≤ length (part bytes at (e - at)) → a + m ≤ e - at → part (part bytes at (e - at)) a m ≡ part bytes (at + a) m
-    in-line a m x y = part-part (drop at bytes) a m (e - at) y ∙ ap (λ (l : List ℕ). take m l) (drop-drop a at bytes)
-
-    -- a sum line
-    pub line-sum : (k i c a m o b l : ℕ) → sumForm (fields (part bytes at (e - at))) ≡ sum k i c (part (part bytes at (e - at)) a m) o (part (part bytes at (e - at)) b l)
-        → a + m ≤ length (part bytes at (e - at)) → b + l ≤ length (part bytes at (e - at)) → a + m ≤ e - at → b + l ≤ e - at
-        → (n : ℕ)
-        → heldFrom bytes n (record { present = true; kind = k; item = i; coef = c; left = at + a; leftlen = m; of = o; right = at + b; rightlen = l; next = e + 1 }) ≡ sumsAt bytes at n
-    unfolding heldFrom withSum
-    line-sum k i c a m o b l f x y x′ y′ n = sym (rw (f, in-line a m x x′, in-line b l y y′) at (cut n))
+pub line-sum : (bytes : List ℕ) (at k i c a m o b l e : ℕ) → sumThen (lines (drop at bytes)) ≡ someSum k i c (part bytes a m) o (part bytes b l) (lines (drop e bytes))
+    → (n : ℕ)
+    → heldFrom bytes n (record { present = true; kind = k; item = i; coef = c; left = a; leftlen = m; of = o; right = b; rightlen = l; next = e }) ≡ sumsAt bytes at n
+unfolding heldFrom withSum
+line-sum bytes at k i c a m o b l e q n =
+    some-held n k i c (part bytes a m) o (part bytes b l) (lines (drop e bytes)) (lines (drop at bytes)) q
 
 -- a line, as one of an item
 module _ (k i : ℕ) (s : SumAt) (bytes : List ℕ) (n : ℕ) where

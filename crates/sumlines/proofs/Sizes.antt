@@ -34,9 +34,9 @@ then-sizes x y = record {
 -- there are still as many places
 pub kept-places : {c₀ l₀ w₀ o₀ b₀ c l w o b : List ℕ} → Places c₀ l₀ w₀ o₀ b₀ → Sizes c₀ l₀ w₀ o₀ b₀ c l w o b → Places c l w o b
 kept-places p s =
-    let x = p .room .coefs in let y = p .room .lens in let z = p .room .letters in let u = p .many in let v = p .buffer in
+    let x = p .room .coefs in let y = p .room .lens in let z = p .room .letters in let u = p .many in let t = p .named in let v = p .buffer in
     let a = s .coefs in let b = s .lens in let c = s .letters in let d = s .places in let e = s .word in
-    record { room = record { coefs = omega arith; lens = omega arith; letters = omega arith }; many = omega arith; buffer = omega arith }
+    record { room = record { coefs = omega arith; lens = omega arith; letters = omega arith }; many = omega arith; named = omega arith; buffer = omega arith }
 
 -- and they are ready where o is still arranged
 pub kept-ready : {c₀ l₀ w₀ o₀ b₀ c l w o b : List ℕ} → Ready c₀ l₀ w₀ o₀ b₀ → Sizes c₀ l₀ w₀ o₀ b₀ c l w o b → Arranged o → Ready c l w o b

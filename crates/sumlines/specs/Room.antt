@@ -4,10 +4,11 @@ use Prim.Native.Nat.{ℕ, _≤_}
 use lib.ListN.{length}
 use Rattle.working.specs.Working.{Room, Arranged}
 
--- The places of the working formula, and room for one word.
+-- The places of the working formula, whose names have 16 bits, and room for one word.
 pub record Places (c l w o buf : List ℕ) : Type 0 where
   pub room : Room c l w (length o)
   pub many : 560 ≤ length o
+  pub named : length o ≤ 65536
   pub buffer : 72 ≤ length buf
 
 -- The places, and o names each of them once: a formula can start.

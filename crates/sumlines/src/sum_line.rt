@@ -3,7 +3,6 @@
 use crate::SumAt;
 use package::SumRead;
 use sumreading::sum_lines::read_sum;
-use text::bytes::find;
 ghost use mathlib.Core.Path.{_≡_};
 ghost use mathlib.Core.Bool.{true, false};
 ghost use mathlib.Core.List.{List};
@@ -35,10 +34,6 @@ pub fn line_at(bytes: &[u8], at: usize) -> SumAt
     ensures { λ r. ⌜ ((n : ℕ) → NumberedFrom n (sumsAt (now (bytes .entry)) at n) → heldFrom (now (bytes .entry)) n r ≡ sumsAt (now (bytes .entry)) at n) ⌝ }
     ensures { λ r. ⌜ (r .present ≡ true → Inside (now (bytes .entry)) at r) ⌝ }
 {
-    let e = find(bytes, at, 10);
-    if bytes.len() <= e {
-        return no_line();
-    }
     let SumRead::Sum {
         kind,
         item,
@@ -48,7 +43,8 @@ pub fn line_at(bytes: &[u8], at: usize) -> SumAt
         of,
         right,
         right_len,
-    } = read_sum(&bytes[at..e])
+        next,
+    } = read_sum(bytes, at)
     else {
         return no_line();
     };
@@ -57,12 +53,12 @@ pub fn line_at(bytes: &[u8], at: usize) -> SumAt
         kind: kind,
         item: item as usize,
         coef: coef,
-        left: at + left,
+        left: left,
         leftlen: left_len,
         of: of as usize,
-        right: at + right,
+        right: right,
         rightlen: right_len,
-        next: e + 1,
+        next: next,
     }
 }
 

@@ -3,6 +3,7 @@
 use crate::SumAt;
 use field::arithmetic::neg;
 use multiples::family::add_numbered;
+use multiples::placing::place_numbered;
 ghost use mathlib.Core.Path.{_≡_};
 ghost use Prim.Native.Nat.{_+_, _≤_};
 ghost use lib.ListN.{length};
@@ -30,9 +31,9 @@ pub fn take_line(
     count: usize,
     m: usize,
     c: &mut [u32],
-    l: &mut [usize],
+    l: &mut [u16],
     w: &mut [u8],
-    o: &mut [usize],
+    o: &mut [u16],
     n: usize,
     buf: &mut [u8],
 ) -> usize
@@ -91,9 +92,9 @@ pub fn start_with(
     count: usize,
     m: usize,
     c: &mut [u32],
-    l: &mut [usize],
+    l: &mut [u16],
     w: &mut [u8],
-    o: &mut [usize],
+    o: &mut [u16],
     buf: &mut [u8],
 ) -> usize
     requires { ⌜ (p ≤ 65536) × Field (fieldOf p) ⌝ }
@@ -109,9 +110,8 @@ pub fn start_with(
         ≡ family (familyAt (now (coefs .entry)) (now (starts .entry)) (now (lens .entry)) (now (bytes .entry)) (now (firsts .entry)) base count) of
         ⌝ }
 {
-    add_numbered(
+    place_numbered(
         p,
-        1,
         bytes,
         0,
         0,
@@ -131,7 +131,6 @@ pub fn start_with(
         l,
         w,
         o,
-        0,
         buf,
     )
 }

@@ -42,9 +42,9 @@ pub fn judge_overlaps(
     from: usize,
     first: usize,
     c: &mut [u32],
-    l: &mut [usize],
+    l: &mut [u16],
     w: &mut [u8],
-    o: &mut [usize],
+    o: &mut [u16],
     buf: &mut [u8],
     lap: &mut [u8],
 ) -> LapsAnswer

@@ -36,9 +36,9 @@ pub fn judge_sums(
     from: usize,
     first: usize,
     c: &mut [u32],
-    l: &mut [usize],
+    l: &mut [u16],
     w: &mut [u8],
-    o: &mut [usize],
+    o: &mut [u16],
     buf: &mut [u8],
 ) -> SumsAnswer
     requires { ⌜ Sides h kind (now coefs) (now starts) (now lens) (now bytes) (now firsts) tbase tcount obase ocount m ⌝ }

@@ -1,1 +1,2 @@
+pub mod LineFields
 pub mod SumTurns

@@ -1,9 +1,9 @@
 // Block 3: sum lines, with refusals 2, 5 and 6 in each.
 
+use crate::line_end::line_word;
 use fieldreading::kind::inner_rank;
 use fieldreading::number::inner_number;
 use fieldreading::word::inner_word;
-use fieldreading::word::last_word;
 use linetests::bounds::coef_fits;
 use linetests::bounds::word_fits;
 use package::Head;
@@ -13,53 +13,57 @@ use package::SumRead;
 use package::Sums;
 use text::NumAt;
 use text::WordAt;
-use text::WordLen;
-use text::bytes::find;
 use text::bytes::is_within;
 ghost use mathlib.Core.Path.{_≡_};
-ghost use Prim.Native.Nat.{ℕ, _+_, _≤_};
+ghost use Prim.Native.Nat.{ℕ, _+_, _≤_, _<_};
 ghost use lib.ListN.{length, drop};
-ghost use Rattle.text.specs.Pieces.{lines, fields};
-ghost use Rattle.package.specs.Sums.{sumForm, sumItemFits, ofs, sumFits, sumFollows, judgeSum, block3};
-ghost use Rattle.package.specs.Held.{seenSum, reachLeft, reachRight, seenSumJudged, seen3};
+ghost use Rattle.text.specs.Pieces.{lines};
+ghost use Rattle.package.specs.Sums.{sumItemFits, ofs, sumFits, sumFollows, block3, sumThen};
+ghost use Rattle.package.specs.Held.{seenSum, SumInside, seenSumJudged, JudgedInside, seen3};
 
-// A sum line: kind item coef left of right.
-pub fn read_sum(l: &[u8]) -> SumRead
-    ensures { λ r. ⌜ seenSum (now (l .entry)) r ≡ sumForm (fields (now (l .entry))) ⌝ }
-    ensures { λ r. ⌜ (reachLeft r ≤ length (now (l .entry))) × (reachRight r ≤ length (now (l .entry))) ⌝ }
+// The sum line from the place at on: kind item coef left of right. Its fields are read from the text: no field has a newline in it,
+// and the last one wants a newline behind it.
+pub fn read_sum(s: &[u8], at: usize) -> SumRead
+    requires { ⌜ at ≤ length (now s) ⌝ }
+    ensures { λ r. ⌜ seenSum (now (s .entry)) r ≡ sumThen (lines (drop at (now (s .entry)))) ⌝ }
+    ensures { λ r. ⌜ SumInside (now (s .entry)) at r ⌝ }
 {
     let NumAt::Read {
         value: kind,
         next: a,
-    } = inner_rank(b"BGO", l, 0)
+    } = inner_rank(b"BGO", s, at)
     else {
         return SumRead::Shapeless;
     };
     let NumAt::Read {
         value: item,
         next: b,
-    } = inner_number(l, a)
+    } = inner_number(s, a)
     else {
         return SumRead::Shapeless;
     };
     let NumAt::Read {
         value: coef,
         next: c,
-    } = inner_number(l, b)
+    } = inner_number(s, b)
     else {
         return SumRead::Shapeless;
     };
     let WordAt::Spans {
         len: left_len,
         next: d,
-    } = inner_word(l, c)
+    } = inner_word(s, c)
     else {
         return SumRead::Shapeless;
     };
-    let NumAt::Read { value: of, next: e } = inner_number(l, d) else {
+    let NumAt::Read { value: of, next: e } = inner_number(s, d) else {
         return SumRead::Shapeless;
     };
-    let WordLen::Letters(right_len) = last_word(l, e) else {
+    let WordAt::Spans {
+        len: right_len,
+        next: f,
+    } = line_word(s, e)
+    else {
         return SumRead::Shapeless;
     };
     SumRead::Sum {
@@ -71,6 +75,7 @@ pub fn read_sum(l: &[u8]) -> SumRead
         of: of,
         right: e,
         right_len: right_len,
+        next: f,
     }
 }
 
@@ -136,10 +141,19 @@ fn sum_follows(last_kind: u32, last_item: u32, kind: u32, item: u32) -> bool
     last_kind < kind
 }
 
-// A line of block 3: refusals 2, 5, 6.
-pub fn judge_sum(h: Head, m: Limits, last_kind: u32, last_item: u32, l: &[u8]) -> SumJudged
+// The line of block 3 that starts at the place at: refusals 2, 5, 6.
+pub fn judge_sum(
+    h: Head,
+    m: Limits,
+    last_kind: u32,
+    last_item: u32,
+    s: &[u8],
+    at: usize,
+) -> SumJudged
     requires { ⌜ h .letters ≤ 26 ⌝ }
-    ensures { λ r. ⌜ seenSumJudged r ≡ judgeSum h m «last_kind» «last_item» (now (l .entry)) ⌝ }
+    requires { ⌜ at < length (now s) ⌝ }
+    ensures { λ r. ⌜ ((n : ℕ) → seenSumJudged h m (now (s .entry)) n r ≡ block3 h m «last_kind» «last_item» n (lines (drop at (now (s .entry))))) ⌝ }
+    ensures { λ r. ⌜ JudgedInside (now (s .entry)) at r ⌝ }
 {
     let SumRead::Sum {
         kind,
@@ -150,13 +164,14 @@ pub fn judge_sum(h: Head, m: Limits, last_kind: u32, last_item: u32, l: &[u8]) -
         of,
         right,
         right_len,
-    } = read_sum(l)
+        next,
+    } = read_sum(s, at)
     else {
         return SumJudged::Reject(2);
     };
     let a = left + left_len;
     let b = right + right_len;
-    if !sum_fits(h, m, kind, item, coef, &l[left..a], of, &l[right..b]) {
+    if !sum_fits(h, m, kind, item, coef, &s[left..a], of, &s[right..b]) {
         return SumJudged::Reject(5);
     }
     if !sum_follows(last_kind, last_item, kind, item) {
@@ -165,6 +180,7 @@ pub fn judge_sum(h: Head, m: Limits, last_kind: u32, last_item: u32, l: &[u8]) -
     SumJudged::Admit {
         kind: kind,
         item: item,
+        next: next,
     }
 }
 
@@ -179,14 +195,7 @@ pub fn judge_sums(h: Head, m: Limits, s: &[u8], from: usize, first: usize) -> Su
     let mut at = from;
     let mut line = first;
     while at < s.len() {
-        let e = find(s, at, 10);
-        if s.len() <= e {
-            return Sums::Fault {
-                number: 2,
-                place: line,
-            };
-        }
-        let j = judge_sum(h, m, kind, item, &s[at..e]);
+        let j = judge_sum(h, m, kind, item, s, at);
         match j {
             SumJudged::Reject(r) => {
                 return Sums::Fault {
@@ -194,10 +203,14 @@ pub fn judge_sums(h: Head, m: Limits, s: &[u8], from: usize, first: usize) -> Su
                     place: line,
                 };
             },
-            SumJudged::Admit { kind: k, item: i } => {
+            SumJudged::Admit {
+                kind: k,
+                item: i,
+                next: e,
+            } => {
                 kind = k;
                 item = i;
-                at = e + 1;
+                at = e;
                 line += 1;
             },
         }

@@ -15,13 +15,13 @@ ghost use Rattle.working.specs.Working.{termAt, formula, Room, Holds, Working};
 ghost use Rattle.working.specs.Change.{Stored, onto, before, single};
 
 // Stores a term at place s: its coefficient is x, its word the first e letters of v.
-pub fn store(x: u32, v: &[u8], e: usize, c: &mut [u32], l: &mut [usize], w: &mut [u8], s: usize)
+pub fn store(x: u32, v: &[u8], e: usize, c: &mut [u32], l: &mut [u16], w: &mut [u8], s: usize)
     requires { ⌜ (e ≤ 72) × (72 ≤ length (now v)) ⌝ }
     requires { ⌜ Room (now c) (now l) (now w) (s + 1) ⌝ }
     ensures { λ _. ⌜ Stored (now (c .entry)) (now (l .entry)) (now (w .entry)) s x (now (v .entry)) e (now (c .exit)) (now (l .exit)) (now (w .exit)) ⌝ }
 {
     c[s] = x;
-    l[s] = e;
+    l[s] = e as u16;
     copy_place(w, s * 72, v);
 }
 
@@ -31,9 +31,9 @@ pub fn put_before(
     v: &[u8],
     e: usize,
     c: &mut [u32],
-    l: &mut [usize],
+    l: &mut [u16],
     w: &mut [u8],
-    o: &mut [usize],
+    o: &mut [u16],
     n: usize,
     k: usize,
 )
@@ -46,7 +46,7 @@ pub fn put_before(
         ≡ before (termAt (now (c .entry)) (now (l .entry)) (now (w .entry)) (now (o .entry))) n k x (take e (now (v .entry)))
         ⌝ }
 {
-    let s = o[n];
+    let s = o[n] as usize;
     store(x, v, e, c, l, w, s);
     rotate_right(o, k, n);
 }
@@ -57,9 +57,9 @@ pub fn add_onto(
     p: u32,
     x: u32,
     c: &mut [u32],
-    l: &[usize],
+    l: &[u16],
     w: &[u8],
-    o: &mut [usize],
+    o: &mut [u16],
     n: usize,
     k: usize,
 ) -> usize
@@ -73,7 +73,7 @@ pub fn add_onto(
         ≡ onto (fieldOf p) (termAt (now (c .entry)) (now (l .entry)) (now (w .entry)) (now (o .entry))) n k x
         ⌝ }
 {
-    let s = o[k];
+    let s = o[k] as usize;
     let y = add(p, x, c[s]);
     if y == 0 {
         rotate_left(o, k, n - 1);
@@ -90,9 +90,9 @@ pub fn add_term(
     v: &[u8],
     e: usize,
     c: &mut [u32],
-    l: &mut [usize],
+    l: &mut [u16],
     w: &mut [u8],
-    o: &mut [usize],
+    o: &mut [u16],
     n: usize,
 ) -> usize
     requires { ⌜ (p ≤ 65536) × (x < p) × Field (fieldOf p) ⌝ }

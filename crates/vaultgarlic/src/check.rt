@@ -16,9 +16,9 @@ pub extern "C" fn vg_check(package: &[u8]) -> Checked
     let mut lens = [0usize; 1024];
     let mut firsts = [0usize; 98];
     let mut c = [0u32; 560];
-    let mut l = [0usize; 560];
+    let mut l = [0u16; 560];
     let mut w = [0u8; 40320];
-    let mut o = [0usize; 560];
+    let mut o = [0u16; 560];
     let mut buf = [0u8; 72];
     let r = accept(
         package,

@@ -23,9 +23,9 @@ pub extern "C" fn vg_member(package: &[u8], formula: &[u8], budget: u32) -> Memb
     ensures { λ r. ⌜ r ≡ membershipAs (now («package» .entry)) (now (formula .entry)) budget ⌝ }
 {
     let mut c = [0u32; 560];
-    let mut l = [0usize; 560];
+    let mut l = [0u16; 560];
     let mut w = [0u8; 40320];
-    let mut o = [0usize; 560];
+    let mut o = [0u16; 560];
     let r = reduce(package, formula, budget, &mut c, &mut l, &mut w, &mut o);
     match r {
         Reduced::Refused { number, place } => Membership {

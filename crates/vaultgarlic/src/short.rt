@@ -27,9 +27,9 @@ fn refusal(number: u64, place: u64) -> Shortened
 // The short form of n terms that the working arrays hold, written to out; 19 where it does not fit.
 fn write_short(
     c: &[u32],
-    l: &[usize],
+    l: &[u16],
     w: &[u8],
-    o: &[usize],
+    o: &[u16],
     n: usize,
     steps: u32,
     out: &mut [u8],
@@ -63,9 +63,9 @@ pub extern "C" fn vg_short_form(
     ensures { λ _. ⌜ now (out .exit) ≡ shortenedInto (now («package» .entry)) (now (formula .entry)) budget (now (out .entry)) ⌝ }
 {
     let mut c = [0u32; 560];
-    let mut l = [0usize; 560];
+    let mut l = [0u16; 560];
     let mut w = [0u8; 40320];
-    let mut o = [0usize; 560];
+    let mut o = [0u16; 560];
     let r = reduce(package, formula, budget, &mut c, &mut l, &mut w, &mut o);
     match r {
         Reduced::Refused { number, place } => refusal(number as u64, place as u64),

@@ -5,7 +5,7 @@ ghost use lib.ListN.{length};
 ghost use Rattle.working.specs.Rotation.{Moved, rotatedRight, rotatedLeft};
 
 // Entry n goes to k, and those from k on one to the right.
-pub fn rotate_right(a: &mut [usize], k: usize, n: usize)
+pub fn rotate_right(a: &mut [u16], k: usize, n: usize)
     requires { ⌜ (k ≤ n) × (n < length (now a)) ⌝ }
     ensures { λ _. ⌜ Moved (rotatedRight k n) (now (a .entry)) (now (a .exit)) ⌝ }
 {
@@ -19,7 +19,7 @@ pub fn rotate_right(a: &mut [usize], k: usize, n: usize)
 }
 
 // Entry k goes to m, and those behind it, up to m, one to the left.
-pub fn rotate_left(a: &mut [usize], k: usize, m: usize)
+pub fn rotate_left(a: &mut [u16], k: usize, m: usize)
     requires { ⌜ (k ≤ m) × (m < length (now a)) ⌝ }
     ensures { λ _. ⌜ Moved (rotatedLeft k m) (now (a .entry)) (now (a .exit)) ⌝ }
 {

@@ -8,19 +8,20 @@ ghost use lib.ListN.{length, getD, take, drop};
 ghost use Rattle.working.specs.Working.{formula, Holds, HoldsNone};
 ghost use Rattle.working.specs.Change.{single};
 
-// Names the places 0, 1, 2, .. in order: whatever the arrays hold, they then hold the formula of no terms.
-pub fn start(o: &mut [usize])
+// Names the places 0, 1, 2, .. in order, which an entry of 16 bits can: whatever the arrays hold, they then hold the formula of no terms.
+pub fn start(o: &mut [u16])
+    requires { ⌜ length (now o) ≤ 65536 ⌝ }
     ensures { λ _. ⌜ HoldsNone (now (o .exit)) ⌝ }
 {
     let mut i = 0;
     while i < o.len() {
-        o[i] = i;
+        o[i] = i as u16;
         i += 1;
     }
 }
 
 // Term k of the formula of n terms: its coefficient, and where its word starts and ends in w.
-pub fn read_term(c: &[u32], l: &[usize], w: &[u8], o: &[usize], n: usize, k: usize) -> TermPlace
+pub fn read_term(c: &[u32], l: &[u16], w: &[u8], o: &[u16], n: usize, k: usize) -> TermPlace
     requires { ⌜ Holds (now c) (now l) (now w) (now o) n ⌝ }
     requires { ⌜ k < n ⌝ }
     ensures { λ r. ⌜ (r .start ≤ r .end) × (r .end ≤ length (now (w .entry))) × (r .end - r .start ≤ 72) ⌝ }
@@ -29,11 +30,11 @@ pub fn read_term(c: &[u32], l: &[usize], w: &[u8], o: &[usize], n: usize, k: usi
         ≡ single (r .coef) (take (r .end - r .start) (drop (r .start) (now (w .entry))))
         ⌝ }
 {
-    let s = o[k];
+    let s = o[k] as usize;
     let start = s * 72;
     TermPlace {
         coef: c[s],
         start: start,
-        end: start + l[s],
+        end: start + l[s] as usize,
     }
 }

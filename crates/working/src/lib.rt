@@ -1,7 +1,8 @@
 // The working formula: a polynomial held in arrays, to which multiples of others are added.
 // Coefficients `c` and lengths `l` have one entry for each place, the letters `w` 72, and `o` says which
 // place each term has: its first n entries are the terms, the greatest word first, and the others are the
-// free places. A term is put in or dropped by moving one entry of `o`; letters stay where they are.
+// free places. A term is put in or dropped by moving one entry of `o`, and with it those between; letters stay
+// where they are. Lengths and entries have 16 bits, so that few bytes are moved.
 // Here are the parts of that; a term is added in crate termadding, a multiple in crate multiples.
 
 pub mod entries;

@@ -11,12 +11,12 @@ ghost use Rattle.working.specs.Working.{wordAt};
 ghost use Rattle.working.specs.Sorted.{Place, Sorted, Belongs};
 
 // How the word of the first e letters of v stands to the word at place s.
-pub fn compare_at(v: &[u8], e: usize, l: &[usize], w: &[u8], s: usize) -> Comparison
+pub fn compare_at(v: &[u8], e: usize, l: &[u16], w: &[u8], s: usize) -> Comparison
     requires { ⌜ (e ≤ 72) × (72 ≤ length (now v)) ⌝ }
     requires { ⌜ Place (now l) (now w) s ⌝ }
     ensures { λ r. ⌜ r ≡ wordOrder (take e (now (v .entry))) (wordAt (now (l .entry)) (now (w .entry)) s) ⌝ }
 {
-    let n = l[s];
+    let n = l[s] as usize;
     if e < n {
         return Comparison::Below;
     }
@@ -27,7 +27,7 @@ pub fn compare_at(v: &[u8], e: usize, l: &[usize], w: &[u8], s: usize) -> Compar
 }
 
 // Where the word of the first e letters of v belongs among the first n words.
-pub fn find(v: &[u8], e: usize, l: &[usize], w: &[u8], o: &[usize], n: usize) -> Position
+pub fn find(v: &[u8], e: usize, l: &[u16], w: &[u8], o: &[u16], n: usize) -> Position
     requires { ⌜ (e ≤ 72) × (72 ≤ length (now v)) ⌝ }
     requires { ⌜ Sorted (now l) (now w) (now o) n ⌝ }
     ensures { λ r. ⌜ Belongs (take e (now (v .entry))) (now (l .entry)) (now (w .entry)) (now (o .entry)) n (r .index) (r .present) ⌝ }
@@ -36,7 +36,7 @@ pub fn find(v: &[u8], e: usize, l: &[usize], w: &[u8], o: &[usize], n: usize) ->
     let mut hi = n;
     while lo < hi {
         let mid = lo + (hi - lo) / 2;
-        let q = compare_at(v, e, l, w, o[mid]);
+        let q = compare_at(v, e, l, w, o[mid] as usize);
         match q {
             Comparison::Below => {
                 lo = mid + 1;

@@ -25,7 +25,7 @@ enum-told : tie.Need-enum-told
 enum-told c = search needs
 
 start-requires : tie.Need-start-requires
-start-requires c κs = search needs
+start-requires c κs = c .before .before .before .before .before .before .before .before .before .before .before .before .before .before .before .before .before .before .before .before .before .before .before .pre .1 .1 .1 .0 .named
 
 judge-package-requires : tie.Need-judge-package-requires
 judge-package-requires c κs =

@@ -17,7 +17,7 @@ use Rattle.fieldreading.proofs.number.inner_digits.Tie as tie
 abbrev Inv-loop : tie.InvT-loop
 Inv-loop l at n₀ i₀ n i =
     (i ≤ length l) × (at ≤ i) × (i ≤ at + 5) × (n < pow (i - at)) × (i + stop 32 (drop i l) ≡ at + stop 32 (drop at l)) ×
-    (digits n (front (drop i l)) ≡ digits 0 (front (drop at l)))
+    (digits n (front 32 (drop i l)) ≡ digits 0 (front 32 (drop at l)))
 
 abbrev μ-loop : tie.MeasureT-loop
 μ-loop l at n₀ i₀ n i = length l - i

@@ -15,7 +15,7 @@ use Rattle.fieldreading.proofs.word.inner_letters.Tie as tie
 abbrev Inv-loop : tie.InvT-loop
 Inv-loop l at i₀ i =
     (i ≤ length l) × (at ≤ i) × (i + stop 32 (drop i l) ≡ at + stop 32 (drop at l)) ×
-    (allWithin 97 122 (front (drop i l)) ≡ allWithin 97 122 (front (drop at l)))
+    (allWithin 97 122 (front 32 (drop i l)) ≡ allWithin 97 122 (front 32 (drop at l)))
 
 abbrev μ-loop : tie.MeasureT-loop
 μ-loop l at i₀ i = length l - i
@@ -35,7 +35,7 @@ returns c =
     let l = c .before .before .before .before .before in
     let s = l .before .before in
     let v = l .loop .inv in
-    (letters-none _ _ _ (v .2) (v .3) (s .pre .1) _ (search needs) (c .before .before .wide .ensures) (c .before .if1 .taken) (c .if2 .taken), (omega arith, omega arith))
+    (letters-none 32 (omega arith) _ _ _ (v .2) (v .3) (s .pre .1) _ (search needs) (c .before .before .wide .ensures) (c .before .if1 .taken) (c .if2 .taken), (omega arith, omega arith))
 
 sub-t10 : tie.Need-sub-t10 Inv-loop μ-loop
 sub-t10 c = search needs
@@ -49,7 +49,7 @@ returns-2 c =
     let l = c .before .before .before .before .before in
     let s = l .before .before in
     let v = l .loop .inv in
-    (letters-ended _ _ _ (v .2) (v .3) (s .pre .1) _ (search needs) (c .before .before .wide .ensures) (c .before .if1 .taken) (omega (arith, v .1, c .if2 .left)), (omega arith, omega arith))
+    (letters-ended 32 (omega arith) _ _ _ (v .2) (v .3) (s .pre .1) _ (search needs) (c .before .before .wide .ensures) (c .before .if1 .taken) (omega (arith, v .1, c .if2 .left)), (omega arith, omega arith))
 
 returns-3 : tie.Need-returns-3 Inv-loop μ-loop
 unfolding seenWordAt nextWord spanWord
@@ -57,7 +57,7 @@ returns-3 c =
     let l = c .before .before .before .before .before in
     let s = l .before .before in
     let v = l .loop .inv in
-    (letters-broken _ _ _ (v .2) (v .3) (s .pre .1) _ (search needs) (c .before .before .wide .ensures) (c .before .if1 .left) (within-low _ _ _ (c .if3 .taken)), (omega arith, omega arith))
+    (letters-broken 32 (omega arith) _ _ _ (v .2) (v .3) (s .pre .1) _ (search needs) (c .before .before .wide .ensures) (c .before .if1 .left) (within-low _ _ _ (c .if3 .taken)), (omega arith, omega arith))
 
 returns-4 : tie.Need-returns-4 Inv-loop μ-loop
 unfolding seenWordAt nextWord spanWord
@@ -65,7 +65,7 @@ returns-4 c =
     let l = c .before .before .before .before .before .before in
     let s = l .before .before in
     let v = l .loop .inv in
-    (letters-broken _ _ _ (v .2) (v .3) (s .pre .1) _ (search needs) (c .before .before .before .wide .ensures) (c .before .before .if1 .left) (within-high _ _ _ (c .before .if3 .left) (c .if4 .taken)), (omega arith, omega arith))
+    (letters-broken 32 (omega arith) _ _ _ (v .2) (v .3) (s .pre .1) _ (search needs) (c .before .before .before .wide .ensures) (c .before .before .if1 .left) (within-high _ _ _ (c .before .if3 .left) (c .if4 .taken)), (omega arith, omega arith))
 
 add-i : tie.Need-add-i Inv-loop μ-loop
 add-i c = search needs
@@ -78,7 +78,7 @@ loop-again c =
     let l = c .before .before .before .before .before .before in
     let s = l .before .before in
     let v = l .loop .inv in
-    let m = letters-more _ _ _ (v .2) (v .3) (s .pre .1) _ (search needs) (c .before .before .before .wide .ensures) (c .before .if3 .left) (c .if4 .left) in
+    let m = letters-more 32 (omega arith) _ _ _ (v .2) (v .3) (s .pre .1) _ (search needs) (c .before .before .before .wide .ensures) (c .before .if3 .left) (c .if4 .left) in
     (search needs, search needs, m .0, m .1)
 
 returns-5 : tie.Need-returns-5 Inv-loop μ-loop
@@ -87,7 +87,7 @@ returns-5 c =
     let l = c .before in
     let s = l .before .before in
     let v = l .loop .inv in
-    (letters-last _ _ _ (v .2) (v .3) (s .pre .1) (c .loop-test .left), (omega arith, omega arith))
+    (letters-last 32 (omega arith) _ _ _ (v .2) (v .3) (s .pre .1) (c .loop-test .left), (omega arith, omega arith))
 
 pub inner-letters-spec : {M : Type 1} → statement M
 inner-letters-spec =

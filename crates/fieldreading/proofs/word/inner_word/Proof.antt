@@ -14,7 +14,7 @@ use Rattle.fieldreading.proofs.word.inner_word.Tie as tie
 
 returns : tie.Need-returns
 unfolding seenWordAt nextWord spanWord
-returns c = (word-end _ _ _ (sym (stop-end 32 _ _ (c .if1 .taken))) (c .if1 .taken), (omega arith, omega arith))
+returns c = (word-end 32 _ _ _ (sym (stop-end 32 _ _ (c .if1 .taken))) (c .if1 .taken), (omega arith, omega arith))
 
 shared-slice-read-if2 : tie.Need-shared-slice-read-if2
 shared-slice-read-if2 c = search needs
@@ -39,7 +39,7 @@ unfolding seenWordAt nextWord spanWord
 returns-3 c =
     let a = c .before .before .before .before .before .before .args in
     let e = eqb-true _ _ (sym (c .before .is-space-at .ensures) ∙ c .if3 .taken) in (
-      dash-alone _ _ (c .before .before .before .before .if1 .left) (c .before .before .if2 .left) e,
+      dash-alone 32 (omega arith) (omega arith) _ _ (c .before .before .before .before .if1 .left) (c .before .before .if2 .left) e,
       (omega (arith, space-inside (now (a .l)) (a .at + 1) e), omega arith),
     )
 
@@ -47,7 +47,7 @@ returns-4 : tie.Need-returns-4
 unfolding seenWordAt nextWord spanWord
 returns-4 c =
     let e = eqb-false _ _ (sym (c .before .is-space-at .ensures) ∙ c .if3 .left) in
-    (dash-more _ _ (c .before .before .before .before .if1 .left) (c .before .before .if2 .left) e, (omega arith, omega arith))
+    (dash-more 32 (omega arith) (omega arith) _ _ (c .before .before .before .before .if1 .left) (c .before .before .if2 .left) e, (omega arith, omega arith))
 
 pub inner-word-spec : {M : Type 1} → statement M
 inner-word-spec =

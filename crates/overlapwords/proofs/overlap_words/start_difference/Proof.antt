@@ -4,10 +4,11 @@ use native.Mathlib.Numerals.{add-one}
 use native.Mathlib.Omega.{arith}
 use lib.ListN.{length, getD}
 use Rattle.words.specs.Order.{wordOrder}
+use Rattle.words.proofs.WordOrder.{word-order-admissible}
 use Rattle.overlaps.specs.Position.{overlapOf}
 use Rattle.overlapwords.specs.OverlapPlaces.{cursorOf}
-use Rattle.sumlines.proofs.Targets.{one-below, family-written, holds-nothing}
-use Rattle.overlapwords.proofs.OverlapTexts.{rest-lead, front-lead, difference-held}
+use Rattle.sumlines.proofs.Targets.{one-below, family-written}
+use Rattle.overlapwords.proofs.OverlapTexts.{rest-lead, front-lead, product-written, difference-held}
 use borrow.Author.Needs.{needs}
 use Rattle.overlapwords.proofs.overlap_words.start_difference.Statement.{statement}
 use Rattle.overlapwords.proofs.overlap_words.start_difference.Tie as tie
@@ -56,23 +57,17 @@ sub-rest c = search needs
 neg-requires : tie.Need-neg-requires
 neg-requires c κs = let s = c .before .before .before .before .before .before .before .before .before .before .before .before .before .before .before in (s .pre .0 .0, one-below _ (s .pre .0 .1))
 
-add-add-numbered : tie.Need-add-add-numbered
-add-add-numbered c = search needs
+add-place-numbered : tie.Need-add-place-numbered
+add-place-numbered c = search needs
 
-add-numbered-requires : tie.Need-add-numbered-requires
-add-numbered-requires c κs = let s = c .before .before .before .before .before .before .before .before .before .before .before .before .before .before .before .before .before .before .before .before .before in
+place-numbered-requires : tie.Need-place-numbered-requires
+place-numbered-requires c κs = let s = c .before .before .before .before .before .before .before .before .before .before .before .before .before .before .before .before .before .before .before .before .before in
     let v = s .pre .1 .0 in
     let i = inside s in
     let (terms, (runs, (all, r))) = s .pre .1 .1 .1 in
     let q = r .places .many in (
-      (s .pre .0 .0, one-below _ (s .pre .0 .1), s .pre .0 .1),
-      (
-        (omega arith, omega (arith, v .first)),
-        (
-          (omega arith, omega arith),
-          ((omega (arith, i), omega (arith, i)), (terms, (runs, (holds-nothing _ _ _ _ _ (r .arranged) (r .places .room), (omega arith, r .places .buffer))))),
-        ),
-      ),
+      (omega arith, omega (arith, v .first)),
+      ((omega arith, omega arith), ((omega (arith, i), omega (arith, i)), (terms, (runs, ((r .arranged, r .places .room), (omega arith, r .places .buffer)))))),
     )
 
 mul-add-numbered : tie.Need-mul-add-numbered
@@ -81,26 +76,26 @@ mul-add-numbered c = let s = c .before .before .before .before .before .before .
 shared-slice-read-add-numbered : tie.Need-shared-slice-read-add-numbered
 shared-slice-read-add-numbered c = let s = c .before .before .before .before .before .before .before .before .before .before .before .before .before .before .before .before .before .before .before .before .before .before .before .before .before .before .before .before .before .before .before .before .before in let v = s .pre .1 .0 in omega (arith, v .first, s .pre .1 .1 .0 .laid .starting)
 
-add-add-numbered-2 : tie.Need-add-add-numbered-2
-add-add-numbered-2 c = let s = c .before .before .before .before .before .before .before .before .before .before .before .before .before .before .before .before .before .before .before .before .before .before .before .before .before .before .before .before .before .before .before .before .before in let v = s .pre .1 .0 in record { fits = omega (arith, v .second, s .pre .1 .1 .0 .laid .starting, s .good .1 .1) }
+add-add-numbered : tie.Need-add-add-numbered
+add-add-numbered c = let s = c .before .before .before .before .before .before .before .before .before .before .before .before .before .before .before .before .before .before .before .before .before .before .before .before .before .before .before .before .before .before .before .before .before in let v = s .pre .1 .0 in record { fits = omega (arith, v .second, s .pre .1 .1 .0 .laid .starting, s .good .1 .1) }
 
-add-numbered-requires-2 : tie.Need-add-numbered-requires-2
-add-numbered-requires-2 c κs = let s = c .before .before .before .before .before .before .before .before .before .before .before .before .before .before .before .before .before .before .before .before .before .before .before .before .before .before .before .before .before .before .before .before .before .before .before .before .before .before in
+add-numbered-requires : tie.Need-add-numbered-requires
+add-numbered-requires c κs = let s = c .before .before .before .before .before .before .before .before .before .before .before .before .before .before .before .before .before .before .before .before .before .before .before .before .before .before .before .before .before .before .before .before .before .before .before .before .before .before in
     let v = s .pre .1 .0 in
     let i = inside s in
     let (terms, (runs, (all, r))) = s .pre .1 .1 .1 in
     let q = r .places .many in
     let u = r .places .buffer in
-    let a = c .before .before .before .before .before .before .before .before .before .before .before .before .before .before .before .before .add-numbered in
-    let k = a .kept .1 .1 .1 .1 .1 .1 .1 .1 .1 .1 .1 .1 .1 .1 .1 .1 .1 in
+    let a = c .before .before .before .before .before .before .before .before .before .before .before .before .before .before .before .before .place-numbered in
+    let k = a .kept .1 .1 .1 .1 .1 .1 .1 .1 .1 .1 .1 .1 .1 .1 .1 .1 in
     let e = a .ensures in
     let e₀ = e .0 in
-    let kb = k .1 .1 .1 .1 .1 .0 in
+    let kb = k .1 .1 .1 .1 .0 in
     let ko = k .1 .1 .1 .0 in (
       (s .pre .0 .0, c .before .before .before .before .before .before .before .before .before .before .before .before .before .before .before .before .before .before .before .before .before .before .neg .ensures .1, s .pre .0 .1),
       (
         (omega arith, omega (arith, v .second)),
-        ((omega (arith, i), omega (arith, i)), ((omega arith, omega arith), (terms, (runs, (e .1 .0, (omega arith, omega arith)))))),
+        ((omega (arith, i), omega (arith, i)), ((omega arith, omega arith), (terms, (runs, (record { holds = e .1 .0; written = rw (e .1 .1) (product-written (s .pre .0 .1) wordOrder word-order-admissible _ _ _ (family-written _ _ _ all _)) }, (omega arith, omega arith)))))),
       ),
     )
 
@@ -124,14 +119,14 @@ returns c = let s = c .before .before .before .before .before .before .before .b
     let f = s .args .f in
     let v = s .pre .1 .0 in
     let h = s .pre .1 .1 .0 in
-    let e = c .before .before .before .before .before .before .before .before .before .before .before .before .before .before .before .before .before .before .before .before .before .before .before .before .before .before .before .add-numbered .ensures in
-    let g = c .before .before .before .before .before .before .before .before .before .before .add-numbered2 .ensures in
+    let e = c .before .before .before .before .before .before .before .before .before .before .before .before .before .before .before .before .before .before .before .before .before .before .before .before .before .before .before .place-numbered .ensures in
+    let g = c .before .before .before .before .before .before .before .before .before .before .add-numbered .ensures in
     let e₀ = e .0 in
     let g₀ = g .0 in (
       omega arith,
       (
         g .1 .0,
-        difference-held (s .pre .0 .1) wordOrder _ (overlapOf (cursorOf f)) (s .args .c .now) (s .args .l .now) (s .args .w .now) (s .args .o .now) _ _ _ _
+        difference-held (s .pre .0 .1) wordOrder word-order-admissible _ (overlapOf (cursorOf f)) _ _ _ _
             (family-written _ _ _ (s .pre .1 .1 .1 .1 .1 .0) _) (rest-lead h f (v .second)) (front-lead h f (v .first)) (rw (add-one (f .first)) at (e .1 .1)) (rw (add-one (f .second), c .before .before .before .before .before .before .before .before .before .before .before .before .before .before .before .before .before .before .before .before .before .before .before .before .before .before .before .before .before .before .before .before .before .neg .ensures .0) at (g .1 .1)),
       ),
     )
@@ -150,12 +145,12 @@ start-difference-spec =
     shared-slice-read-rest
     sub-rest
     neg-requires
-    add-add-numbered
-    add-numbered-requires
+    add-place-numbered
+    place-numbered-requires
     mul-add-numbered
     shared-slice-read-add-numbered
-    add-add-numbered-2
-    add-numbered-requires-2
+    add-add-numbered
+    add-numbered-requires
     same-length
     same-length-2
     same-length-3

@@ -65,7 +65,8 @@ reduce-formula-requires c κs =
           lens = omega (arith, a .kept .1 .1 .1 .1 .1 .1 .0, a .kept .1 .1 .1 .1 .1 .1 .1 .1 .0, s .0 .lens);
           letters = omega (arith, a .kept .1 .1 .1 .1 .1 .1 .1 .0, a .kept .1 .1 .1 .1 .1 .1 .1 .1 .0, s .0 .letters);
         };
-        many = omega (arith, a .kept .1 .1 .1 .1 .1 .1 .1 .1 .0, s .1);
+        many = omega (arith, a .kept .1 .1 .1 .1 .1 .1 .1 .1 .0, s .1 .0);
+        named = omega (arith, a .kept .1 .1 .1 .1 .1 .1 .1 .1 .0, s .1 .1);
         buffer = omega (arith, a .kept .1 .1 .1 .1 .1 .1 .1 .1 .1 .0);
       },
     )

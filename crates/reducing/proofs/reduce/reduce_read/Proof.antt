@@ -30,7 +30,7 @@ load-requires c κs =
     let a = s .0 in
     let f = s .1 .0 in
     let r = s .1 .1 in
-    ((omega (arith, a .lies .prime), a .lies .field), (f .given, (f .written, (r .room, (omega (arith, f .few, r .many), r .buffer)))))
+    ((omega (arith, a .lies .prime), a .lies .field), (f .given, (f .written, (r .room, (omega (arith, f .few, r .many), r .named, r .buffer)))))
 
 cast-run : tie.Need-cast-run
 cast-run c = search needs

@@ -1,13 +1,7 @@
--- `load`: the formula of no terms, with the polynomial added, is the polynomial.
-use mathlib.Core.Path.{sym, _∙_, ap}
+-- `load` places the polynomial, between no letters.
+use mathlib.Core.Path.{_∙_}
 use native.Mathlib.Omega.{arith}
-use lib.ListN.{length}
-use Rattle.words.proofs.WordOrder.{word-order-admissible}
-use Rattle.algebra.specs.Poly.{Poly}
-use Rattle.working.specs.Working.{terms}
-use Rattle.working.proofs.Places.{working-none}
-use Rattle.working.proofs.Terms.{terms-length}
-use Rattle.shortform.proofs.Loaded.{loaded, one-below}
+use Rattle.algebra.proofs.Lines.{shift-nil}
 use borrow.Author.Needs.{needs}
 use Rattle.shortform.proofs.loading.load.Statement.{statement}
 use Rattle.shortform.proofs.loading.load.Tie as tie
@@ -15,15 +9,13 @@ use Rattle.shortform.proofs.loading.load.Tie as tie
 start-requires : tie.Need-start-requires
 start-requires c κs = search needs
 
-add-multiple-requires : tie.Need-add-multiple-requires
-add-multiple-requires c κs =
-    let t = c .before .before .before .before .before .before .before in
-    let z = t .before .before .before .before .before .before .before .before .before .before .before in
+place-product-requires : tie.Need-place-product-requires
+place-product-requires c κs = let t = c .before .before .before .before .before .before .before in
+    let z = c .before .before .before .before .before .before .before .before .before .before .before .before .before .before .before .before .before .before in
     let k = t .start .kept .0 in
-    let fits = z .pre .1 .1 .1 .1 .0 in
-    let laws = z .pre .0 .1 in
-    let none = working-none (z .args .p) (z .args .c .now) (z .args .l .now) (z .args .w .now) (t .start .last .0) (t .start .ensures _ _ _ (rw k (z .pre .1 .1 .1 .0))) in
-    ((z .pre .0 .0, one-below (z .args .p) laws, laws), ((omega arith, omega arith), ((omega arith, omega arith), (z .pre .1 .0, (none, (omega arith, z .pre .1 .1 .1 .1 .1))))))
+    let (fits, few, room) = z .pre .1 .1 .1 .1 in
+    let h = t .start .ensures (z .args .c .now) (z .args .l .now) (z .args .w .now) (rw k (z .pre .1 .1 .1 .0)) in
+    ((omega arith, omega arith), ((omega arith, omega arith), (z .pre .1 .0, ((h .arranged, h .room), (omega arith, room)))))
 
 same-length : tie.Need-same-length
 same-length c = search needs
@@ -41,20 +33,17 @@ same-length-5 : tie.Need-same-length-5
 same-length-5 c = search needs
 
 returns : tie.Need-returns
-unfolding terms
-returns c =
-    let t = c .before .before .before .before .before .before .before .before .before .before in
-    let z = t .before .before .before .before .before .before .before .before .before .before .before .before .before .before .before .before .before .before .before in
-    let e = t .add-multiple .ensures .1 .1 ∙ loaded (z .pre .0 .1) word-order-admissible (z .pre .1 .1 .0) in
-    let n = sym (terms-length _ 0 (t .add-multiple .result)) ∙ ap (λ (f : Poly). length f) e ∙ terms-length _ 0 (length (z .args .fc .now)) in
-    (n, (t .add-multiple .ensures .1 .0, e))
+returns c = let z = c .before .before .before .before .before .before .before .before .before .before .before .before .before .before .before .before .before .before .before .before .before .before .before .before .before .before .before .before .before in
+    let e = c .before .before .before .before .before .before .before .before .before .before .place-product .ensures in
+    let held = e .1 .1 ∙ shift-nil _ in
+    (e .0, (record { holds = e .1 .0; written = rw held (z .pre .1 .1 .0) }, held))
 
 pub load-spec : {M : Type 1} → statement M
 load-spec =
     tie.close
     (tie.spec
     start-requires
-    add-multiple-requires
+    place-product-requires
     same-length
     same-length-2
     same-length-3

@@ -1,13 +1,15 @@
 -- `judge_sums`: the lines that are left, below the kind and item of the last, are judged as all are.
 use mathlib.Core.Path.{_≡_, refl, _∙_}
 use Prim.Native.Nat.{_+_, _-_, _≤_}
+use native.Mathlib.Numerals.{add-one}
+use native.Mathlib.Omega.{arith}
 use lib.ListN.{length, drop}
 use borrow.Author.Needs.{needs}
-use Rattle.package.proofs.SumLines.{seen-reject, seen-admit}
+use Rattle.package.proofs.SumLines.{seen-reject, seen-admit, judged-inside}
 use Rattle.package.specs.Held.{seen3}
 use Rattle.package.specs.Sums.{block3}
 use Rattle.text.specs.Pieces.{lines}
-use Rattle.sumreading.proofs.SumTurns.{sums-end, sums-missing, sums-refuse, sums-accept}
+use Rattle.sumreading.proofs.SumTurns.{sums-end}
 use Rattle.sumreading.proofs.sum_lines.judge_sums.Statement.{statement}
 use Rattle.sumreading.proofs.sum_lines.judge_sums.Tie as tie
 
@@ -21,73 +23,47 @@ abbrev μ-loop : tie.MeasureT-loop
 loop-holds : tie.Need-loop-holds Inv-loop μ-loop
 loop-holds c = (search needs, search needs, search needs, refl)
 
-find-requires : tie.Need-find-requires Inv-loop μ-loop
-find-requires c κs = search needs
-
-returns : tie.Need-returns Inv-loop μ-loop
-unfolding seen3
-returns c =
-    let c2 = c .before .before in
-    let c3 = c2 .before in
-    let c5 = c3 .before .before in
-    let x = c3 .loop in
-    let a = c5 .args in
-    sums-missing (a .h) (a .m) _ _ (x .line) _ (x .at) _ (c .before .find .ensures .0) (c2 .loop-test .taken) (c .if1 .taken) ∙ x .inv .3
-
-sub-judge-sum : tie.Need-sub-judge-sum Inv-loop μ-loop
-sub-judge-sum c = search needs
-
-part-judge-sum-start : tie.Need-part-judge-sum-start Inv-loop μ-loop
-part-judge-sum-start c = search needs
-
-part-judge-sum-end : tie.Need-part-judge-sum-end Inv-loop μ-loop
-part-judge-sum-end c = search needs
-
 judge-sum-requires : tie.Need-judge-sum-requires Inv-loop μ-loop
 judge-sum-requires c κs = search needs
 
 enum-known-j : tie.Need-enum-known-j Inv-loop μ-loop
 enum-known-j c = search needs
 
-returns-2 : tie.Need-returns-2 Inv-loop μ-loop
+returns : tie.Need-returns Inv-loop μ-loop
 unfolding seen3
-returns-2 c =
+returns c =
     let c3 = c .before .before .before in
-    let c5 = c3 .before .before in
-    let c6 = c5 .before in
-    let c8 = c6 .before .before in
-    let c10 = c8 .before .before in
-    let x = c8 .loop in
-    let a = c10 .args in
-    sums-refuse (a .h) (a .m) _ _ (x .line) _ (x .at) _ (c6 .find .ensures .0) (c5 .if1 .left) _
-    (seen-reject _ _ _ (c .before .j .given .1) (c3 .judge-sum .ensures)) ∙ x .inv .3
+    let x = c3 .before .before .loop in
+    seen-reject _ _ _ _ _ _ _ (c .before .j .given .1) (c3 .judge-sum .ensures .0 (x .line)) ∙ x .inv .3
 
 enum-known-j-2 : tie.Need-enum-known-j-2 Inv-loop μ-loop
 enum-known-j-2 c = search needs
-
-add-at : tie.Need-add-at Inv-loop μ-loop
-add-at c = search needs
 
 add-line : tie.Need-add-line Inv-loop μ-loop
 add-line c = search needs
 
 loop-less : tie.Need-loop-less Inv-loop μ-loop
-loop-less c = search needs
+loop-less c =
+    let c3 = c .before .before .before in
+    let j = judged-inside _ _ _ _ _ _ (c .before .j2 .given .1) (c3 .judge-sum .ensures .1) in
+    omega (arith, j .0, j .1)
 
 loop-again : tie.Need-loop-again Inv-loop μ-loop
 loop-again c =
-    let x = c .before .before .before .before .before .before .before .before .loop in let a = c .before .before .before .before .before .before .before .before .before .before .args in (
-      search needs,
-      search needs,
-      search needs,
-      sums-accept (a .h) (a .m) _ _ (x .line) _ (x .at) _
-          (c .before .before .before .before .before .before .find .ensures .0) (c .before .before .before .before .before .if1 .left) _ _
-          (seen-admit _ _ _ _ (c .before .j2 .given .1) (c .before .before .before .judge-sum .ensures)) ∙ x .inv .3,
+    let c3 = c .before .before .before in
+    let x = c3 .before .before .loop in
+    let g = c .before .j2 .given .1 in
+    let j = judged-inside _ _ _ _ _ _ g (c3 .judge-sum .ensures .1) in
+    let l = add-one (x .line) in (
+      j .1,
+      omega (arith, j .0, x .inv .1),
+      x .inv .2,
+      rw l (seen-admit _ _ _ _ _ _ _ _ _ g (c3 .judge-sum .ensures .0 (x .line))) ∙ x .inv .3,
     )
 
-returns-3 : tie.Need-returns-3 Inv-loop μ-loop
+returns-2 : tie.Need-returns-2 Inv-loop μ-loop
 unfolding seen3
-returns-3 c =
+returns-2 c =
     let c3 = c .before .before .before in
     let x = c .before .loop in
     let a = c3 .args in
@@ -100,17 +76,11 @@ judge-sums-spec =
     Inv-loop
     μ-loop
     loop-holds
-    find-requires
-    returns
-    sub-judge-sum
-    part-judge-sum-start
-    part-judge-sum-end
     judge-sum-requires
     enum-known-j
-    returns-2
+    returns
     enum-known-j-2
-    add-at
     add-line
     loop-less
     loop-again
-    returns-3)
+    returns-2)

@@ -1,9 +1,9 @@
 -- `read_sum` reads what `sumForm` gives, field by field.
 use native.Mathlib.Omega.{arith}
 use borrow.Author.Needs.{needs}
-use Rattle.package.proofs.SumLines.{sum-kind, sum-item, sum-coef, sum-left, sum-of, sum-right, sum-whole}
-use Rattle.package.specs.Held.{seenSum, reachLeft, reachRight}
-use Rattle.fieldreading.proofs.FieldReading.{seen-none-word, seen-some-word, next-word-le, span-le, seen-none, seen-some, next-le, seen-no-word, seen-word, len-le}
+use Rattle.package.specs.Held.{SumInside}
+use Rattle.fieldreading.proofs.FieldReading.{seen-none-word, seen-some-word, next-word-le, span-le, seen-none, seen-some, next-le}
+use Rattle.sumreading.proofs.LineFields.{line-kind, line-item, line-coef, line-left, line-of, line-right, line-sum, line-behind, sum-seen, further, seen-no-last, seen-last}
 use Rattle.sumreading.proofs.sum_lines.read_sum.Statement.{statement}
 use Rattle.sumreading.proofs.sum_lines.read_sum.Tie as tie
 
@@ -20,8 +20,8 @@ enum-told : tie.Need-enum-told
 enum-told c = search needs
 
 returns : tie.Need-returns
-unfolding seenSum reachLeft reachRight
-returns c = (sum-kind _ (seen-none _ _ _ (c .enum-told .given .1) (c .before .before .inner-rank .ensures .0)), (omega arith, omega arith))
+unfolding SumInside
+returns c = (line-kind _ _ (seen-none _ _ _ (c .enum-told .given .1) (c .before .before .inner-rank .ensures .0)), tt)
 
 inner-number-requires : tie.Need-inner-number-requires
 inner-number-requires c κs = next-le _ _ _ _ (c .before .kind .given .1) (c .before .before .before .inner-rank .ensures .1)
@@ -33,14 +33,14 @@ enum-told-2 : tie.Need-enum-told-2
 enum-told-2 c = search needs
 
 returns-2 : tie.Need-returns-2
-unfolding seenSum reachLeft reachRight
+unfolding SumInside
 returns-2 c =
     let c2 = c .before .before in
     let c4 = c2 .before .before in
     let c6 = c4 .before .before in (
-      sum-item _ _ _ (seen-some _ _ _ _ _ (c4 .kind .given .1) (c6 .inner-rank .ensures .0))
-          (seen-none _ _ _ (c .enum-told2 .given .1) (c2 .inner-number .ensures .0)),
-      (omega arith, omega arith),
+      line-item _ _ _ (seen-some _ _ _ _ _ (c4 .kind .given .1) (c6 .inner-rank .ensures .0))
+          _ (seen-none _ _ _ (c .enum-told2 .given .1) (c2 .inner-number .ensures .0)),
+      tt,
     )
 
 inner-number-requires-2 : tie.Need-inner-number-requires-2
@@ -53,17 +53,17 @@ enum-told-3 : tie.Need-enum-told-3
 enum-told-3 c = search needs
 
 returns-3 : tie.Need-returns-3
-unfolding seenSum reachLeft reachRight
+unfolding SumInside
 returns-3 c =
     let c2 = c .before .before in
     let c4 = c2 .before .before in
     let c6 = c4 .before .before in
     let c8 = c6 .before .before in
     let c10 = c8 .before .before in (
-      sum-coef _ _ _ (seen-some _ _ _ _ _ (c8 .kind .given .1) (c10 .inner-rank .ensures .0)) _ _
+      line-coef _ _ _ (seen-some _ _ _ _ _ (c8 .kind .given .1) (c10 .inner-rank .ensures .0)) _ _
           (seen-some _ _ _ _ _ (c4 .item .given .1) (c6 .inner-number .ensures .0))
-          (seen-none _ _ _ (c .enum-told3 .given .1) (c2 .inner-number2 .ensures .0)),
-      (omega arith, omega arith),
+          _ (seen-none _ _ _ (c .enum-told3 .given .1) (c2 .inner-number2 .ensures .0)),
+      tt,
     )
 
 inner-word-requires : tie.Need-inner-word-requires
@@ -76,7 +76,7 @@ enum-told-4 : tie.Need-enum-told-4
 enum-told-4 c = search needs
 
 returns-4 : tie.Need-returns-4
-unfolding seenSum reachLeft reachRight
+unfolding SumInside
 returns-4 c =
     let c2 = c .before .before in
     let c4 = c2 .before .before in
@@ -85,11 +85,11 @@ returns-4 c =
     let c10 = c8 .before .before in
     let c12 = c10 .before .before in
     let c14 = c12 .before .before in (
-      sum-left _ _ _ (seen-some _ _ _ _ _ (c12 .kind .given .1) (c14 .inner-rank .ensures .0)) _ _
+      line-left _ _ _ (seen-some _ _ _ _ _ (c12 .kind .given .1) (c14 .inner-rank .ensures .0)) _ _
           (seen-some _ _ _ _ _ (c8 .item .given .1) (c10 .inner-number .ensures .0)) _ _
           (seen-some _ _ _ _ _ (c4 .coef .given .1) (c6 .inner-number2 .ensures .0))
-          (seen-none-word _ _ _ _ (c .enum-told4 .given .1) (c2 .inner-word .ensures .0)),
-      (omega arith, omega arith),
+          _ (seen-none-word _ _ _ _ (c .enum-told4 .given .1) (c2 .inner-word .ensures .0)),
+      tt,
     )
 
 inner-number-requires-3 : tie.Need-inner-number-requires-3
@@ -102,7 +102,7 @@ enum-told-5 : tie.Need-enum-told-5
 enum-told-5 c = search needs
 
 returns-5 : tie.Need-returns-5
-unfolding seenSum reachLeft reachRight
+unfolding SumInside
 returns-5 c =
     let c2 = c .before .before in
     let c4 = c2 .before .before in
@@ -113,16 +113,16 @@ returns-5 c =
     let c14 = c12 .before .before in
     let c16 = c14 .before .before in
     let c18 = c16 .before .before in (
-      sum-of _ _ _ (seen-some _ _ _ _ _ (c16 .kind .given .1) (c18 .inner-rank .ensures .0)) _ _
+      line-of _ _ _ (seen-some _ _ _ _ _ (c16 .kind .given .1) (c18 .inner-rank .ensures .0)) _ _
           (seen-some _ _ _ _ _ (c12 .item .given .1) (c14 .inner-number .ensures .0)) _ _
           (seen-some _ _ _ _ _ (c8 .coef .given .1) (c10 .inner-number2 .ensures .0)) _ _
           (seen-some-word _ _ _ _ _ _ (c4 .left-len .given .1) (c6 .inner-word .ensures .0))
-          (seen-none _ _ _ (c .enum-told5 .given .1) (c2 .inner-number3 .ensures .0)),
-      (omega arith, omega arith),
+          _ (seen-none _ _ _ (c .enum-told5 .given .1) (c2 .inner-number3 .ensures .0)),
+      tt,
     )
 
-last-word-requires : tie.Need-last-word-requires
-last-word-requires c κs = next-le _ _ _ _ (c .before .of .given .1) (c .before .before .before .inner-number3 .ensures .1)
+line-word-requires : tie.Need-line-word-requires
+line-word-requires c κs = next-le _ _ _ _ (c .before .of .given .1) (c .before .before .before .inner-number3 .ensures .1)
 
 enum-known-right-len : tie.Need-enum-known-right-len
 enum-known-right-len c = search needs
@@ -131,7 +131,7 @@ enum-told-6 : tie.Need-enum-told-6
 enum-told-6 c = search needs
 
 returns-6 : tie.Need-returns-6
-unfolding seenSum reachLeft reachRight
+unfolding SumInside
 returns-6 c =
     let c2 = c .before .before in
     let c4 = c2 .before .before in
@@ -144,17 +144,17 @@ returns-6 c =
     let c18 = c16 .before .before in
     let c20 = c18 .before .before in
     let c22 = c20 .before .before in (
-      sum-right _ _ _ (seen-some _ _ _ _ _ (c20 .kind .given .1) (c22 .inner-rank .ensures .0)) _ _
+      line-right _ _ _ (seen-some _ _ _ _ _ (c20 .kind .given .1) (c22 .inner-rank .ensures .0)) _ _
           (seen-some _ _ _ _ _ (c16 .item .given .1) (c18 .inner-number .ensures .0)) _ _
           (seen-some _ _ _ _ _ (c12 .coef .given .1) (c14 .inner-number2 .ensures .0)) _ _
           (seen-some-word _ _ _ _ _ _ (c8 .left-len .given .1) (c10 .inner-word .ensures .0)) _ _
           (seen-some _ _ _ _ _ (c4 .of .given .1) (c6 .inner-number3 .ensures .0))
-          (seen-no-word _ _ _ (c .enum-told6 .given .1) (c2 .last-word .ensures .0)),
-      (omega arith, omega arith),
+          _ (seen-no-last _ _ _ _ (c .enum-told6 .given .1) (c2 .line-word .ensures .0)),
+      tt,
     )
 
 returns-7 : tie.Need-returns-7
-unfolding seenSum reachLeft reachRight
+unfolding SumInside
 returns-7 c =
     let c3 = c .before .before .before in
     let c5 = c3 .before .before in
@@ -166,14 +166,21 @@ returns-7 c =
     let c17 = c15 .before .before in
     let c19 = c17 .before .before in
     let c21 = c19 .before .before in
-    let c23 = c21 .before .before in (
-      sum-whole _ _ _ (seen-some _ _ _ _ _ (c21 .kind .given .1) (c23 .inner-rank .ensures .0)) _ _
-          (seen-some _ _ _ _ _ (c17 .item .given .1) (c19 .inner-number .ensures .0)) _ _
-          (seen-some _ _ _ _ _ (c13 .coef .given .1) (c15 .inner-number2 .ensures .0)) _ _
-          (seen-some-word _ _ _ _ _ _ (c9 .left-len .given .1) (c11 .inner-word .ensures .0)) _ _
-          (seen-some _ _ _ _ _ (c5 .of .given .1) (c7 .inner-number3 .ensures .0)) _
-          (seen-word _ _ _ _ (c .before .right-len .given .1) (c3 .last-word .ensures .0)),
-      (span-le _ _ _ _ _ (c9 .left-len .given .1) (c11 .inner-word .ensures .1 .1), len-le _ _ _ _ (c .before .right-len .given .1) (c3 .last-word .ensures .1)),
+    let c23 = c21 .before .before in
+    let kind = seen-some _ _ _ _ _ (c21 .kind .given .1) (c23 .inner-rank .ensures .0) in
+    let item = seen-some _ _ _ _ _ (c17 .item .given .1) (c19 .inner-number .ensures .0) in
+    let coef = seen-some _ _ _ _ _ (c13 .coef .given .1) (c15 .inner-number2 .ensures .0) in
+    let left = seen-some-word _ _ _ _ _ _ (c9 .left-len .given .1) (c11 .inner-word .ensures .0) in
+    let of = seen-some _ _ _ _ _ (c5 .of .given .1) (c7 .inner-number3 .ensures .0) in
+    let right = seen-last _ _ _ _ _ _ (c .before .right-len .given .1) (c3 .line-word .ensures .0) in
+    let next = next-word-le _ _ _ _ (c .before .right-len .given .1) (c3 .line-word .ensures .1 .0) in (
+      sum-seen _ _ _ _ _ _ _ _ _ _ _ (line-sum _ _ _ kind _ _ item _ _ coef _ _ left _ _ of _ _ right),
+      (
+        span-le _ _ _ _ _ (c9 .left-len .given .1) (c11 .inner-word .ensures .1 .1),
+        span-le _ _ _ _ _ (c .before .right-len .given .1) (c3 .line-word .ensures .1 .1),
+        further _ _ _ (omega arith) next (line-behind _ _ _ kind _ _ item _ _ coef _ _ left _ _ of _ _ right),
+        next,
+      ),
     )
 
 pub read-sum-spec : {M : Type 1} → statement M
@@ -201,7 +208,7 @@ read-sum-spec =
     enum-known-of
     enum-told-5
     returns-5
-    last-word-requires
+    line-word-requires
     enum-known-right-len
     enum-told-6
     returns-6

@@ -11,6 +11,12 @@ mul-s c = search needs
 slice-read-s : tie.Need-slice-read-s
 slice-read-s c = search needs
 
+cast-s : tie.Need-cast-s
+cast-s c =
+    let z = c .before .before .before .before .before in
+    let q = coef-in _ _ _ _ _ (z .pre .1 .1 .holds) _ (z .pre .1 .0) in
+    search needs
+
 mul-add : tie.Need-mul-add
 mul-add c =
     let z = c .before .before .before .before .before in
@@ -86,6 +92,7 @@ add-onto-spec =
     (tie.spec
     mul-s
     slice-read-s
+    cast-s
     mul-add
     slice-read-add
     add-requires

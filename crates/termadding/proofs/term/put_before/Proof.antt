@@ -11,6 +11,12 @@ mul-s c = search needs
 slice-read-s : tie.Need-slice-read-s
 slice-read-s c = search needs
 
+cast-s : tie.Need-cast-s
+cast-s c =
+    let z = c .before .before .before .before .before .before in
+    let q = room-in _ _ _ _ _ (z .pre .1 .1) _ (z .pre .1 .0 .1) .coefs in
+    search needs
+
 store-requires : tie.Need-store-requires
 store-requires c κs =
     let z = c .before .before .before .before .before .before .before .before .before in
@@ -48,6 +54,7 @@ put-before-spec =
     (tie.spec
     mul-s
     slice-read-s
+    cast-s
     store-requires
     rotate-right-requires
     same-length

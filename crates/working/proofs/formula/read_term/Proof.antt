@@ -13,6 +13,12 @@ mul-s c = search needs
 shared-slice-read-s : tie.Need-shared-slice-read-s
 shared-slice-read-s c = search needs
 
+cast-s : tie.Need-cast-s
+cast-s c =
+    let z = c .before in
+    let q = coef-in _ _ _ _ _ (z .pre .0) _ (z .pre .1) in
+    search needs
+
 mul-start : tie.Need-mul-start
 mul-start c =
     let z = c .before in
@@ -31,20 +37,26 @@ shared-slice-read-t13 c =
     let q = coef-in _ _ _ _ _ (z .pre .0) _ (z .pre .1) in
     search needs
 
-mul-t11 : tie.Need-mul-t11
-mul-t11 c =
+mul-t14 : tie.Need-mul-t14
+mul-t14 c =
     let z = c .before .before in
     let q = place-in _ _ _ _ _ (z .pre .0) _ (z .pre .1) in
     search needs
 
-shared-slice-read-t15 : tie.Need-shared-slice-read-t15
-shared-slice-read-t15 c =
+shared-slice-read-t11 : tie.Need-shared-slice-read-t11
+shared-slice-read-t11 c =
     let z = c .before .before .before in
     let q = place-in _ _ _ _ _ (z .pre .0) _ (z .pre .1) in
     search needs
 
-add-t16 : tie.Need-add-t16
-add-t16 c =
+cast-t16 : tie.Need-cast-t16
+cast-t16 c =
+    let z = c .before .before .before in
+    let q = place-in _ _ _ _ _ (z .pre .0) _ (z .pre .1) in
+    search needs
+
+add-t17 : tie.Need-add-t17
+add-t17 c =
     let z = c .before .before .before in
     let q = place-in _ _ _ _ _ (z .pre .0) _ (z .pre .1) in
     search needs
@@ -61,10 +73,12 @@ read-term-spec =
     (tie.spec
     mul-s
     shared-slice-read-s
+    cast-s
     mul-start
     mul-t9
     shared-slice-read-t13
-    mul-t11
-    shared-slice-read-t15
-    add-t16
+    mul-t14
+    shared-slice-read-t11
+    cast-t16
+    add-t17
     returns)

@@ -28,6 +28,9 @@ abbrev μ-loop : tie.MeasureT-loop
 loop-holds : tie.Need-loop-holds Inv-loop μ-loop
 loop-holds c = (search needs, search needs, λ j h. absurd (omega arith))
 
+cast-o : tie.Need-cast-o Inv-loop μ-loop
+cast-o c = search needs
+
 mul-o : tie.Need-mul-o Inv-loop μ-loop
 mul-o c = search needs
 
@@ -60,6 +63,7 @@ start-spec =
     Inv-loop
     μ-loop
     loop-holds
+    cast-o
     mul-o
     slice-write-o
     add-i

@@ -25,6 +25,12 @@ mul-n c = search needs
 shared-slice-read-n : tie.Need-shared-slice-read-n
 shared-slice-read-n c = search needs
 
+cast-n : tie.Need-cast-n
+cast-n c =
+    let z = c .before .before .before .before in
+    let q = z .pre .1 .short in
+    search needs
+
 returns : tie.Need-returns
 returns c = let z = c .before .before .before .before .before in sym (order-shorter _ _ (rw (size-here (z .args .e) (z .args .v .now) (z .pre .0), size-there _ _ _ (z .pre .1)) (c .if1 .taken)))
 
@@ -46,6 +52,7 @@ compare-at-spec =
     (tie.spec
     mul-n
     shared-slice-read-n
+    cast-n
     returns
     returns-2
     mul-compare-level

@@ -36,6 +36,14 @@ mul-compare-at c = search needs
 shared-slice-read-compare-at : tie.Need-shared-slice-read-compare-at Inv-loop μ-loop
 shared-slice-read-compare-at c = search needs
 
+cast-compare-at : tie.Need-cast-compare-at Inv-loop μ-loop
+cast-compare-at c =
+    let m = c .before .before in
+    let z = m .before .before .before .before .before in
+    let half = m .loop .lo + (m .loop .hi - m .loop .lo) / 2 in
+    let q = z .pre .1 .place half (search needs) .lens in
+    search needs
+
 compare-at-requires : tie.Need-compare-at-requires Inv-loop μ-loop
 compare-at-requires c κs =
     let z = c .before .before .before .before .before .before .before in
@@ -101,6 +109,7 @@ find-spec =
     add-mid
     mul-compare-at
     shared-slice-read-compare-at
+    cast-compare-at
     compare-at-requires
     enum-told
     add-lo
