@@ -8,10 +8,10 @@ use native.Mathlib.Omega.{arith}
 use lib.Dec.{eqb}
 use lib.ListN.{length, getD}
 use Rattle.field.specs.Field.{Operations, Field}
-use Rattle.words.specs.All.{All, done, _also_}
+use Rattle.lists.specs.All.{All, done, _also_}
 use Rattle.words.specs.Order.{Order, Lt, Admissible}
 use Rattle.words.specs.Place.{Stands}
-use Rattle.words.proofs.Every.{all-map, all-at}
+use Rattle.lists.proofs.Every.{all-map, all-at}
 use Rattle.algebra.specs.Poly.{Poly}
 use Rattle.algebra.specs.Written.{Written}
 use Rattle.algebra.specs.Ideal.{Family, family, Line, Over, InIdeal}

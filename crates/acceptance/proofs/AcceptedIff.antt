@@ -16,11 +16,11 @@ use Rattle.words.specs.declared.Comparison.{Comparison}
 use Rattle.words.specs.declared.Comparison.the-variants.{Below, Equal, Above}
 use Rattle.words.specs.declared.Found.{Found}
 use Rattle.words.specs.declared.Found.the-variants.{At, Nowhere}
-use Rattle.words.specs.All.{All, done, _also_}
+use Rattle.lists.specs.All.{All, done, _also_}
 use Rattle.words.specs.Word.{Word}
 use Rattle.words.specs.Order.{Order, Lt, Admissible}
 use Rattle.words.specs.Place.{Stands, leftmost}
-use Rattle.words.proofs.Every.{all-at}
+use Rattle.lists.proofs.Every.{all-at}
 use Rattle.words.proofs.Standing.{leftmost-at, leftmost-nowhere}
 use Rattle.algebra.specs.Poly.{Poly, coeff, Same, sub}
 use Rattle.algebra.specs.Written.{Written, written}

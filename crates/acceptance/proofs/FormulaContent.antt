@@ -10,10 +10,10 @@ use lib.ListN.{length}
 use borrow.Author.Tests.{eqb-true, eq-eqb, ne-eqb, ltb-true, lt-ltb, le-ltb}
 use Rattle.field.specs.Field.{fieldOf, modular}
 use Rattle.words.specs.declared.Comparison.the-variants.{Below}
-use Rattle.words.specs.All.{All, done, _also_}
+use Rattle.lists.specs.All.{All, done, _also_}
 use Rattle.words.specs.Word.{Word, Letter}
 use Rattle.words.specs.Order.{Lt, wordOrder}
-use Rattle.words.proofs.Every.{all-map, all-split, all-append}
+use Rattle.lists.proofs.Every.{all-map, all-split, all-append}
 use Rattle.words.proofs.WordOrder.{word-order-admissible}
 use Rattle.algebra.specs.Poly.{Term, Poly, InLetters}
 use Rattle.algebra.specs.Written as W
@@ -21,7 +21,8 @@ use Rattle.algebra.specs.Written.{Written}
 use Rattle.text.specs.Bytes.{allWithin}
 use Rattle.text.proofs.Bytewise.{within-in}
 use Rattle.package.specs.declared.Limits.{Limits}
-use Rattle.package.specs.Bounds.{coefFits, wordFits, isBelow}
+use Rattle.package.specs.Bounds.{coefFits, wordFits}
+use Rattle.words.specs.Below.{isBelow}
 use Rattle.package.specs.Formula.{FormulaOutcome, wrongAt, formula, rowFits, readFormula}
 use Rattle.package.specs.Readable.{RowsInOrder, noRows, rowThen}
 use Rattle.package.specs.Writing.{writeFormula}

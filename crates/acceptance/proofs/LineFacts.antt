@@ -11,7 +11,7 @@ use borrow.Author.Tests.{eqb-true, ltb-true, ltb-false}
 use Rattle.field.specs.Prime.{isPrime}
 use Rattle.words.specs.declared.Comparison.{Comparison}
 use Rattle.words.specs.declared.Comparison.the-variants.{Below, Equal, Above}
-use Rattle.words.specs.All.{All, done, _also_}
+use Rattle.lists.specs.All.{All, done, _also_}
 use Rattle.words.specs.Word.{Word, Letter}
 use Rattle.words.specs.Order.{Lt, wordOrder}
 use Rattle.text.specs.Bytes.{within, allWithin}
@@ -19,7 +19,8 @@ use Rattle.text.proofs.Bytewise.{within-bounds, all-cons}
 use Rattle.package.specs.declared.Head.{Head}
 use Rattle.package.specs.declared.Limits.{Limits}
 use Rattle.package.specs.Head.{primeFits}
-use Rattle.package.specs.Bounds.{coefFits, wordFits, isBelow}
+use Rattle.package.specs.Bounds.{coefFits, wordFits}
+use Rattle.words.specs.Below.{isBelow}
 use Rattle.package.specs.Terms.{itemsOf, termFits, LineAbove, follows}
 use Rattle.package.specs.Sums.{sumItemFits, ofs, sumFits}
 

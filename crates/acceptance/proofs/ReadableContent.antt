@@ -11,10 +11,10 @@ use lib.ListN.{length}
 use borrow.Author.Tests.{eq-eqb, ne-eqb, ltb-false}
 use Rattle.field.specs.Field.{Field, fieldOf, modular}
 use Rattle.field.proofs.Modular.{fieldOf-field}
-use Rattle.words.specs.All.{All, done, _also_}
+use Rattle.lists.specs.All.{All, done, _also_}
 use Rattle.words.specs.Word.{Word, Letter}
 use Rattle.words.specs.Order.{Lt, wordOrder}
-use Rattle.words.proofs.Every.{all-map}
+use Rattle.lists.proofs.Every.{all-map}
 use Rattle.words.proofs.WordOrder.{word-order-admissible}
 use Rattle.algebra.specs.Poly.{Term, Poly, InLetters}
 use Rattle.algebra.specs.Written as W

@@ -17,6 +17,7 @@ use Rattle.algebra.specs.Groebner.{lead, leadCoef, top}
 use Rattle.algebra.specs.Steps.{takeAway}
 use Rattle.overlaps.specs.Overlaps as O
 use Rattle.overlaps.specs.Overlaps.{leads, overlaps, overlapWord, difference}
+use Rattle.package.specs.Names.{sumB, sumG, sumO}
 use Rattle.package.specs.Sums.{SumLine}
 use Rattle.package.specs.Package.{Package}
 use Rattle.acceptance.specs.Content.{relations, basis, lineOf, sumOf}
@@ -81,7 +82,7 @@ sumsJudged n k K O G ss (f ∷ fs) i = thenJudge (sumVerdict n i (lessLines K O 
 -- 15: the first O line whose item is above the overlap count.
 unfoldable pub itemsJudged : ℕ → List SumLine → Verdict
 itemsJudged count [] = fine
-itemsJudged count (s ∷ ss) = elim (eqb (s .kind) 3) [
+itemsJudged count (s ∷ ss) = elim (eqb (s .kind) sumO) [
   | false ↦ itemsJudged count ss
   | true ↦ elim (ltb count (s .item)) [ true ↦ refusal 15 (s .line) | false ↦ itemsJudged count ss ]
 ]
@@ -116,7 +117,7 @@ unfolding overlapVerdict lessBelow sumOf thenJudge written difference overlapWor
 overlapsJudged K O G ss [] i = fine
 overlapsJudged K O G ss (o ∷ os) i =
     thenJudge
-    (overlapVerdict i (lessBelow K O G (overlapWord G o) (written K O (difference K G o)) (sumOf 3 i ss)))
+    (overlapVerdict i (lessBelow K O G (overlapWord G o) (written K O (difference K G o)) (sumOf sumO i ss)))
     (overlapsJudged K O G ss os (suc i))
 
 -- 8 for all items, then 9 for all: what listing judges too.
@@ -128,8 +129,8 @@ basisJudged ps = thenJudge (leadsJudged ps 1) (apartJudged (leads ps) (leads ps)
 unfoldable pub sumsVerdict : Operations → Order → List Poly → List Poly → List SumLine → Verdict
 unfolding sumsJudged itemsJudged overlapsJudged thenJudge leads overlaps family
 sumsVerdict K O rs ps ss =
-    thenJudge (sumsJudged 11 1 K O (family rs) ss ps 1)
-    (thenJudge (sumsJudged 12 2 K O (family ps) ss rs 1)
+    thenJudge (sumsJudged 11 sumB K O (family rs) ss ps 1)
+    (thenJudge (sumsJudged 12 sumG K O (family ps) ss rs 1)
     (thenJudge (itemsJudged (length (overlaps (leads ps))) ss)
     (overlapsJudged K O (family ps) ss (overlaps (leads ps)) 1)))
 

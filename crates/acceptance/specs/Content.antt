@@ -5,6 +5,7 @@ use Prim.Native.Nat.{ℕ, zero, suc}
 use lib.Dec.{eqb}
 use Rattle.algebra.specs.Poly.{Poly}
 use Rattle.algebra.specs.Ideal.{Line}
+use Rattle.package.specs.Names.{termG, termB}
 use Rattle.package.specs.Items.{itemTerms}
 use Rattle.package.specs.Terms.{TermLine}
 use Rattle.package.specs.Sums.{SumLine}
@@ -26,15 +27,15 @@ unfolding polynomial
 polynomials k ts i zero = []
 polynomials k ts i (suc n) = polynomial k i ts ∷ polynomials k ts (suc i) n
 
--- The relations: items of kind G, rank 1 of block 2.
+-- The relations: items of kind G of block 2.
 unfoldable pub relations : Package → List Poly
 unfolding polynomials
-relations P = polynomials 1 (P .terms) 1 (P .head .gens)
+relations P = polynomials termG (P .terms) 1 (P .head .gens)
 
--- The basis: items of kind B, rank 2 of block 2.
+-- The basis: items of kind B of block 2.
 unfoldable pub basis : Package → List Poly
 unfolding polynomials
-basis P = polynomials 2 (P .terms) 1 (P .head .basis)
+basis P = polynomials termB (P .terms) 1 (P .head .basis)
 
 -- What a sum line adds.
 abbrev pub lineOf : SumLine → Line

@@ -5,7 +5,7 @@ use mathlib.Core.List.{List, [], _∷_, _++_}
 use Prim.Native.Nat.{ℕ, suc, _≤_, _<_}
 use lib.ListN.{length, getD}
 use Rattle.field.specs.Field.{Operations, fieldOf}
-use Rattle.words.specs.All.{All}
+use Rattle.lists.specs.All.{All}
 use Rattle.words.specs.Order.{Order, Lt, wordOrder}
 use Rattle.words.specs.Place.{Stands}
 use Rattle.algebra.specs.Poly.{Poly, Same, sub}
@@ -14,6 +14,7 @@ use Rattle.algebra.specs.Ideal.{Family, family, Line, value}
 use Rattle.algebra.specs.Groebner.{lead, leadCoef, top}
 use Rattle.overlaps.specs.Overlaps as O
 use Rattle.overlaps.specs.Overlaps.{leads, overlaps, overlapWord, difference}
+use Rattle.package.specs.Names.{sumB, sumG, sumO}
 use Rattle.package.specs.Sums.{SumLine}
 use Rattle.package.specs.Package.{Package}
 use Rattle.acceptance.specs.Content.{relations, basis, lineOf, sumOf, linesOf}
@@ -40,17 +41,17 @@ pub record Facts (K : Operations) (O : Order) (rs ps : List Poly) (ss : List Sum
   -- no leading word stands inside another polynomial's (equal counts as inside)
   pub apart : (i j k : ℕ) → i < length ps → j < length ps → i ≢ j → Stands (lead (getD ps j [])) (lead (getD ps i [])) k → ⊥
   -- B sums equal the basis
-  pub basis-sums : (i : ℕ) → i < length ps → SumHolds K O (family rs) (getD ps i []) (linesOf (sumOf 1 (suc i) ss))
+  pub basis-sums : (i : ℕ) → i < length ps → SumHolds K O (family rs) (getD ps i []) (linesOf (sumOf sumB (suc i) ss))
   -- G sums equal the relations
-  pub relation-sums : (i : ℕ) → i < length rs → SumHolds K O (family ps) (getD rs i []) (linesOf (sumOf 2 (suc i) ss))
+  pub relation-sums : (i : ℕ) → i < length rs → SumHolds K O (family ps) (getD rs i []) (linesOf (sumOf sumG (suc i) ss))
   -- no O item is above the overlap count
-  pub items : All (λ s. s .kind ≡ 3 → s .item ≤ length (overlaps (leads ps))) ss
+  pub items : All (λ s. s .kind ≡ sumO → s .item ≤ length (overlaps (leads ps))) ss
   -- O sums equal the overlap differences
   pub overlap-sums : (i : ℕ) → i < length (overlaps (leads ps))
-      → SumHolds K O (family ps) (difference K (family ps) (overlapAt ps (suc i))) (linesOf (sumOf 3 (suc i) ss))
+      → SumHolds K O (family ps) (difference K (family ps) (overlapAt ps (suc i))) (linesOf (sumOf sumO (suc i) ss))
   -- in each O line left × leading word × right is strictly below the overlap word
   pub overlap-below : (i : ℕ) → i < length (overlaps (leads ps))
-      → All (λ x. Lt O (top (family ps) x) (overlapWord (family ps) (overlapAt ps (suc i)))) (linesOf (sumOf 3 (suc i) ss))
+      → All (λ x. Lt O (top (family ps) x) (overlapWord (family ps) (overlapAt ps (suc i)))) (linesOf (sumOf sumO (suc i) ss))
 
 -- The facts of acceptance hold of a package that reads.
 abbrev pub Acceptable : Package → Type 0

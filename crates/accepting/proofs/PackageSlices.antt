@@ -5,7 +5,7 @@ use Prim.Native.Nat.{ℕ, _+_, _≤_, _<_}
 use native.Mathlib.Omega.{arith}
 use lib.ListN.{length}
 use Rattle.field.specs.Field.{fieldOf}
-use Rattle.words.specs.All.{All}
+use Rattle.lists.specs.All.{All}
 use Rattle.words.specs.Order.{wordOrder}
 use Rattle.algebra.specs.Poly.{Poly}
 use Rattle.algebra.specs.Written.{Written}
@@ -28,7 +28,7 @@ use Rattle.sumlines.specs.Lines.{sumsAt}
 use Rattle.checking.specs.Answer.{PackageLies, SumsStart, relationsIn, basisIn, answerOf}
 use Rattle.checking.specs.declared.Checked.{Checked}
 use Rattle.checking.specs.declared.Checked.the-variants.{Rejected, Accepted}
-use Rattle.accepting.specs.Acceptance.{judgedBy, acceptance}
+use Rattle.acceptance.specs.Acceptance.{judgedBy, acceptance}
 use Rattle.accepting.specs.Slices.{PackageRead, PackageAccepted, overlapsIn}
 
 module _ (s ks is cs os ls fs : List ℕ) (h : Head) (m at n : ℕ) (e : seenAll s ks is cs os ls (Whole h m at n) ≡ readPackage s)

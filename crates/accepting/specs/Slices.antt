@@ -13,7 +13,7 @@ use Rattle.sumlines.specs.Lines.{sumsAt}
 use Rattle.checking.specs.Answer.{PackageLies, SumsStart, relationsIn, basisIn}
 use Rattle.accepting.specs.declared.Accepting.{Accepting}
 use Rattle.accepting.specs.declared.Accepting.the-variants.{Turned, Taken}
-use Rattle.accepting.specs.Acceptance.{acceptance}
+use Rattle.acceptance.specs.Acceptance.{acceptance}
 
 -- The bytes are read as a package, which lies in the slices: m terms, and its sum lines from the place at on.
 pub record PackageRead (bytes coefs starts lens firsts : List ℕ) (h : Head) (m at line : ℕ) : Type 0 where

@@ -7,10 +7,10 @@ use mathlib.Core.WellFounded.{Acc, Acc·intro, Subrelation·accessible}
 use Prim.Native.Nat.{ℕ, _<_}
 use Rattle.field.specs.Field.{Operations, Field}
 use Rattle.field.proofs.Derived.{mul-zero, sub-self, sub-add-self, neg-neg}
-use Rattle.words.specs.All.{All, done, _also_}
+use Rattle.lists.specs.All.{All, done, _also_}
 use Rattle.words.specs.Word.{Word}
 use Rattle.words.specs.Order.{Order, Lt, Admissible}
-use Rattle.words.proofs.Every.{all-map, all-of}
+use Rattle.lists.proofs.Every.{all-map, all-of}
 use Rattle.words.proofs.Admissible.{lt-ne, trichotomy}
 use Rattle.algebra.specs.Poly.{Term, Poly, coeff, Same, scale, shift, sub}
 use Rattle.algebra.specs.Written.{Written, zero, term, written}

@@ -5,10 +5,10 @@ use mathlib.Core.List.{List, [], _∷_, _++_, append-assoc, append-nil}
 use Prim.Native.Nat.{ℕ}
 use Rattle.field.specs.Field.{Operations, Field}
 use Rattle.field.proofs.Derived.{red-zero, zero-add, one-mul, mul-zero, add-add-add-comm, sub-eq-sub-of-add-eq-add}
-use Rattle.words.specs.All.{All, done, _also_}
+use Rattle.lists.specs.All.{All, done, _also_}
 use Rattle.words.specs.Word.{Word, around}
 use Rattle.words.specs.Order.{Order, Lt, Admissible}
-use Rattle.words.proofs.Every.{all-append}
+use Rattle.lists.proofs.Every.{all-append}
 use Rattle.words.proofs.Admissible.{lt-around}
 use Rattle.algebra.specs.Poly.{Term, Poly, coeff, scale, shift}
 use Rattle.algebra.specs.Ideal.{Family, Line, value}

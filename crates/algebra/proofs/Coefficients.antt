@@ -9,44 +9,30 @@ use lib.Dec.{eqb}
 use borrow.Author.Tests.{eq-eqb, eqb-true, ne-eqb}
 use Rattle.field.specs.Field.{Operations, Field}
 use Rattle.field.proofs.Derived.{red-zero, zero-add, mul-zero}
-use Rattle.words.specs.All.{All, done, _also_}
+use Rattle.lists.specs.All.{All, done, _also_}
 use Rattle.words.specs.Word.{Word, around}
-use Rattle.words.proofs.Every.{all-append}
-use Rattle.algebra.specs.Poly.{Term, Poly, sameWord, whereSame, coeff, Same, scale, shift, sub, InLetters}
-
-pub same-word : (u : Word) → sameWord u u ≡ true
-unfolding sameWord
-same-word [] = refl
-same-word (a ∷ u) = rw (sameWord, eq-eqb a a refl) (same-word u)
-
-pub eq-of-same-word : (u v : Word) → sameWord u v ≡ true → u ≡ v
-unfolding sameWord
-eq-of-same-word [] [] e = refl
-eq-of-same-word [] (b ∷ v) e = absurd (true≢false (sym e))
-eq-of-same-word (a ∷ u) [] e = absurd (true≢false (sym e))
-eq-of-same-word (a ∷ u) (b ∷ v) e = go (eqb a b) refl (eq-of-same-word u v)
-  where
-    go : (t : Bool) → eqb a b ≡ t → (sameWord u v ≡ true → u ≡ v) → _≡_ {A = Word} (a ∷ u) (b ∷ v)
-    go true p rest = ap₂ _∷_ (eqb-true a b p) (rest (rw (sameWord, p) at e))
-    go false p rest = absurd (true≢false (sym (rw (sameWord, p) at e)))
+use Rattle.lists.proofs.Every.{all-append}
+use Rattle.algebra.specs.Poly.{Term, Poly, whereSame, coeff, Same, scale, shift, sub, InLetters}
+use Rattle.lists.specs.Same.{same}
+use Rattle.lists.proofs.Sameness.{same-eq, same-refl}
 
 pub word-discrete : (u v : Word) → Dec (u ≡ v)
-word-discrete u v = go (sameWord u v) refl
+word-discrete u v = go (same u v) refl
   where
-    go : (t : Bool) → sameWord u v ≡ t → Dec (u ≡ v)
-    go true e = yes (eq-of-same-word u v e)
-    go false e = no (λ p. true≢false (sym (same-word v) ∙ rw p at e))
+    go : (t : Bool) → same u v ≡ t → Dec (u ≡ v)
+    go true e = yes (same-eq u v e)
+    go false e = no (λ p. true≢false (sym (same-refl v) ∙ rw p at e))
 
 pub where-same : (u w : Word) (c : ℕ) → u ≡ w → whereSame u w c ≡ c
 unfolding whereSame
-where-same u w c e = rw (e, whereSame, same-word w)
+where-same u w c e = rw (e, whereSame, same-refl w)
 
 pub where-other : (u w : Word) (c : ℕ) → u ≢ w → whereSame u w c ≡ 0
 unfolding whereSame
-where-other u w c n = go (sameWord u w) refl
+where-other u w c n = go (same u w) refl
   where
-    go : (t : Bool) → sameWord u w ≡ t → _≡_ {A = ℕ} (elim t [ true ↦ c | false ↦ 0 ]) 0
-    go true e = absurd (n (eq-of-same-word u w e))
+    go : (t : Bool) → same u w ≡ t → _≡_ {A = ℕ} (elim t [ true ↦ c | false ↦ 0 ]) 0
+    go true e = absurd (n (same-eq u w e))
     go false e = refl
 
 pub around-injective : (l r u v : Word) → around l r u ≡ around l r v → u ≡ v

@@ -9,10 +9,10 @@ use Prim.Native.Nat.{ℕ}
 use native.Mathlib.Decide.{ℕ-discrete}
 use Rattle.field.specs.Field.{Operations, Field}
 use Rattle.field.proofs.Derived.{red-zero, red-red, zero-add, red-mul-left, add-left-comm, mul-zero, zero-mul, collect}
-use Rattle.words.specs.All.{All, done, _also_}
+use Rattle.lists.specs.All.{All, done, _also_}
 use Rattle.words.specs.Word.{Word, around}
 use Rattle.words.specs.Order.{Order, Lt, Admissible}
-use Rattle.words.proofs.Every.{all-map, all-append, all-both, all-of}
+use Rattle.lists.proofs.Every.{all-map, all-append, all-both, all-of}
 use Rattle.words.proofs.Admissible.{Le, le-lt-trans, trichotomy}
 use Rattle.algebra.specs.Poly.{Poly, coeff, Same, shift}
 use Rattle.algebra.specs.Ideal.{Family, Line, value}

@@ -13,10 +13,10 @@ use Rattle.field.specs.Field.{Operations, Field}
 use Rattle.field.proofs.Derived.{red-zero, zero-add, red-add-left, add-left-comm}
 use Rattle.words.specs.declared.Comparison.{Comparison}
 use Rattle.words.specs.declared.Comparison.the-variants.{Below, Equal, Above}
-use Rattle.words.specs.All.{All, done, _also_}
+use Rattle.lists.specs.All.{All, done, _also_}
 use Rattle.words.specs.Word.{Word}
 use Rattle.words.specs.Order.{Order, Lt, Admissible}
-use Rattle.words.proofs.Every.{all-map}
+use Rattle.lists.proofs.Every.{all-map}
 use Rattle.words.proofs.Admissible.{lt-of-above}
 use Rattle.algebra.specs.Poly.{Term, Poly, whereSame, coeff, Same}
 use Rattle.algebra.specs.Written.{Written, zero, term, put, insert, plus, written}

@@ -5,10 +5,10 @@ use mathlib.Core.List.{List, [], _∷_, _++_, cons≢nil}
 use Prim.Native.Nat.{ℕ}
 use Rattle.field.specs.Field.{Operations, Field}
 use Rattle.field.proofs.Derived.{red-zero, zero-add, one-mul, mul-zero, red-mul-right, eq-add-of-sub-eq}
-use Rattle.words.specs.All.{All, done, _also_}
+use Rattle.lists.specs.All.{All, done, _also_}
 use Rattle.words.specs.Word.{Word, around}
 use Rattle.words.specs.Order.{Order, Lt, Admissible}
-use Rattle.words.proofs.Every.{all-map}
+use Rattle.lists.proofs.Every.{all-map}
 use Rattle.words.proofs.Admissible.{Le, lt-ne, lt-around, le-lt-trans}
 use Rattle.algebra.specs.Poly.{Term, Poly, coeff, scale, shift, sub}
 use Rattle.algebra.specs.Ideal.{Family, Line, value}

@@ -4,9 +4,9 @@ use mathlib.Core.List.{List, [], _∷_, _++_, append-nil}
 use Prim.Native.Nat.{ℕ}
 use Rattle.field.specs.Field.{Operations, Field}
 use Rattle.field.proofs.Derived.{zero-add, mul-zero}
-use Rattle.words.specs.All.{All, done, _also_}
+use Rattle.lists.specs.All.{All, done, _also_}
 use Rattle.words.specs.Word.{Word}
-use Rattle.words.proofs.Every.{all-append}
+use Rattle.lists.proofs.Every.{all-append}
 use Rattle.algebra.specs.Poly.{Poly, coeff, scale, shift}
 use Rattle.algebra.specs.Ideal.{Family, Line, product, value, Over}
 use Rattle.algebra.proofs.Coefficients.{around-around, coeff-nil, red-coeff, coeff-append, coeff-scale}

@@ -9,7 +9,7 @@ use native.Mathlib.Omega.{arith}
 use lib.ListN.{length, length-append}
 use Rattle.field.specs.Field.{Operations, Field}
 use Rattle.field.proofs.Derived.{one-mul, sub-self, sub-add-self}
-use Rattle.words.specs.All.{done}
+use Rattle.lists.specs.All.{done}
 use Rattle.words.specs.Word.{Word, around}
 use Rattle.words.specs.Order.{Order, Admissible}
 use Rattle.algebra.specs.Poly.{coeff, scale, shift, sub}

@@ -9,10 +9,10 @@ use lib.Dec.{ltb}
 use lib.ListN.{length}
 use Rattle.field.specs.Field.{Operations, Field}
 use Rattle.field.proofs.Derived.{neg-eq-mul, sub-self, add-sub-add-cancel}
-use Rattle.words.specs.All.{All, done, _also_}
+use Rattle.lists.specs.All.{All, done, _also_}
 use Rattle.words.specs.Word.{Word, around}
 use Rattle.words.specs.Order.{Order, Admissible}
-use Rattle.words.proofs.Every.{all-map, all-append, all-split}
+use Rattle.lists.proofs.Every.{all-map, all-append, all-split}
 use Rattle.algebra.specs.Poly.{Term, Poly, coeff, Same, scale, shift, sub, InLetters}
 use Rattle.algebra.specs.Written.{Written}
 use Rattle.algebra.specs.Ideal.{Family, family, Line, product, value, Over}

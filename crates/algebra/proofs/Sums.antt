@@ -4,9 +4,9 @@ use mathlib.Core.List.{List, [], _∷_, _++_}
 use Prim.Native.Nat.{ℕ}
 use Rattle.field.specs.Field.{Operations, Field}
 use Rattle.field.proofs.Derived.{one-mul, sub-self, sub-add-sub-cancel, neg-sub}
-use Rattle.words.specs.All.{All, done, _also_}
+use Rattle.lists.specs.All.{All, done, _also_}
 use Rattle.words.specs.Word.{Word}
-use Rattle.words.proofs.Every.{all-map, all-append}
+use Rattle.lists.proofs.Every.{all-map, all-append}
 use Rattle.algebra.specs.Poly.{Poly, coeff, Same, scale, shift, sub}
 use Rattle.algebra.specs.Ideal.{Family, Line, product, value, Over, InIdeal}
 use Rattle.algebra.proofs.Coefficients.{coeff-nil, red-coeff, coeff-append, coeff-scale, coeff-sub, shift-same}

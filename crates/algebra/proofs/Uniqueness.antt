@@ -6,10 +6,10 @@ use mathlib.Core.List.{[], _++_, append-nil}
 use Prim.Native.Nat.{ℕ}
 use Rattle.field.specs.Field.{Operations, Field}
 use Rattle.field.proofs.Derived.{add-add-add-comm, mul-left-comm}
-use Rattle.words.specs.All.{All, done}
+use Rattle.lists.specs.All.{All, done}
 use Rattle.words.specs.Word.{Word}
 use Rattle.words.specs.Order.{Order, Admissible}
-use Rattle.words.proofs.Every.{all-append}
+use Rattle.lists.proofs.Every.{all-append}
 use Rattle.algebra.specs.Poly.{Poly, coeff, Same, scale, sub}
 use Rattle.algebra.specs.Written.{Written, zero, written}
 use Rattle.algebra.specs.Ideal.{Family, InIdeal}

@@ -7,10 +7,10 @@ use native.Mathlib.Omega.{arith}
 use lib.ListN.{length, getD}
 use Rattle.field.specs.Field.{Operations, Field}
 use Rattle.field.proofs.Derived.{add-left-cancel, eq-of-sub-eq-zero, mul-ne-zero}
-use Rattle.words.specs.All.{All, done, _also_}
+use Rattle.lists.specs.All.{All, done, _also_}
 use Rattle.words.specs.Word.{Word, around}
 use Rattle.words.specs.Order.{Order, Lt, Admissible}
-use Rattle.words.proofs.Every.{all-map, all-both}
+use Rattle.lists.proofs.Every.{all-map, all-both}
 use Rattle.words.proofs.Admissible.{lt-ne, lt-around, trichotomy}
 use Rattle.algebra.specs.Poly.{Term, Poly, whereSame, coeff, Same, scale, shift, sub}
 use Rattle.algebra.specs.Written.{Written, zero, term, plus, written}

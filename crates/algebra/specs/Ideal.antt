@@ -3,7 +3,7 @@ use mathlib.Core.List.{List, [], _∷_, _++_}
 use Prim.Native.Nat.{ℕ}
 use lib.ListN.{getD}
 use Rattle.field.specs.Field.{Operations}
-use Rattle.words.specs.All.{All}
+use Rattle.lists.specs.All.{All}
 use Rattle.words.specs.Word.{Word}
 use Rattle.algebra.specs.Poly.{Poly, Same, scale, shift}
 

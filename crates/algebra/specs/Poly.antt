@@ -4,8 +4,9 @@ use mathlib.Core.Bool.{Bool, true, false}
 use mathlib.Core.List.{List, [], _∷_, _++_}
 use Prim.Native.Nat.{ℕ}
 use lib.Dec.{eqb}
+use Rattle.lists.specs.Same.{same}
 use Rattle.field.specs.Field.{Operations}
-use Rattle.words.specs.All.{All}
+use Rattle.lists.specs.All.{All}
 use Rattle.words.specs.Word.{Word, around}
 
 -- coefficient × word
@@ -16,17 +17,10 @@ pub record Term : Type 0 where
 abbrev pub Poly : Type 0
 Poly = List Term
 
--- The words are the same.
-unfoldable pub sameWord : Word → Word → Bool
-sameWord [] [] = true
-sameWord [] (b ∷ v) = false
-sameWord (a ∷ u) [] = false
-sameWord (a ∷ u) (b ∷ v) = elim (eqb a b) [ true ↦ sameWord u v | false ↦ false ]
-
 -- c where the words are the same, 0 where not.
 unfoldable pub whereSame : Word → Word → ℕ → ℕ
-unfolding sameWord
-whereSame u w c = elim (sameWord u w) [ true ↦ c | false ↦ 0 ]
+unfolding same
+whereSame u w c = elim (same u w) [ true ↦ c | false ↦ 0 ]
 
 -- The coefficient of a word in a formal sum: the sum of the coefficients of the terms that have it.
 unfoldable pub coeff : Operations → Poly → Word → ℕ

@@ -1,7 +1,7 @@
 -- Short forms under an accepted basis (document 01, 'What demand 3 compares').
 use Prim.Native.Nat.{ℕ}
 use Rattle.field.specs.Field.{Operations}
-use Rattle.words.specs.All.{All}
+use Rattle.lists.specs.All.{All}
 use Rattle.words.specs.Order.{Order}
 use Rattle.algebra.specs.Poly.{Poly, sub}
 use Rattle.algebra.specs.Written.{Written}

@@ -6,7 +6,7 @@ use Prim.Native.Nat.{ℕ, _<_}
 use lib.Dec.{eqb}
 use Rattle.field.specs.Field.{Operations}
 use Rattle.words.specs.declared.Comparison.the-variants.{Below, Equal, Above}
-use Rattle.words.specs.All.{All}
+use Rattle.lists.specs.All.{All}
 use Rattle.words.specs.Word.{Word}
 use Rattle.words.specs.Order.{Order, Lt}
 use Rattle.algebra.specs.Poly.{Term, Poly}

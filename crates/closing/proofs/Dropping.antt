@@ -10,7 +10,7 @@ use lib.Seq.{take-append-seam, drop-append-seam}
 use borrow.Author.Tests.{eq-eqb, ne-eqb}
 use Rattle.field.specs.Field.{Operations, Field}
 use Rattle.field.proofs.Derived.{zero-add}
-use Rattle.words.specs.All.{All, done, _also_}
+use Rattle.lists.specs.All.{All, done, _also_}
 use Rattle.words.specs.Word.{Word}
 use Rattle.words.specs.Order.{Order, Admissible}
 use Rattle.algebra.specs.Poly as P

@@ -2,7 +2,7 @@
 use mathlib.Core.List.{List, [], _∷_}
 use Prim.Native.Nat.{ℕ}
 use lib.ListN.{take, drop}
-use Rattle.words.specs.All.{All}
+use Rattle.lists.specs.All.{All}
 use Rattle.words.specs.Order.{Order, Lt}
 use Rattle.algebra.specs.Poly as P
 use Rattle.algebra.specs.Poly.{Poly}

@@ -2,9 +2,9 @@
 // `inner_number` wants another field behind its own, `last_number` wants none.
 
 use crate::space::is_space_at;
+use lists::bytes::wide;
 use text::Num;
 use text::NumAt;
-use text::bytes::wide;
 ghost use mathlib.Core.Path.{_≡_};
 ghost use Prim.Native.Nat.{ℕ, _+_, _≤_, _<_};
 ghost use lib.ListN.{length, getD, drop};

@@ -2,10 +2,10 @@
 // `inner_word` wants another field behind its own, `last_word` wants none.
 
 use crate::space::is_space_at;
+use lists::bytes::wide;
 use text::WordAt;
 use text::WordLen;
 use text::bytes::all_within;
-use text::bytes::wide;
 ghost use mathlib.Core.Path.{_≡_};
 ghost use Prim.Native.Nat.{ℕ, _+_, _≤_, _<_};
 ghost use lib.ListN.{length, getD, drop};

@@ -15,7 +15,7 @@ use Rattle.package.specs.Held.{Inside, rowsHeld}
 use Rattle.package.specs.Names.{formulaNames}
 use Rattle.package.specs.declared.Limits.{Limits}
 use Rattle.text.proofs.Cutting.{cut-more, cut-end}
-use Rattle.text.specs.Bytes.{same}
+use Rattle.lists.specs.Same.{same}
 use Rattle.text.specs.Pieces.{pieces, lines, stop, part}
 use Rattle.text.specs.Word.{word}
 

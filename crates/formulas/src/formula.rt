@@ -3,7 +3,6 @@
 use fieldreading::number::inner_number;
 use fieldreading::word::last_word;
 use linetests::bounds::coef_fits;
-use linetests::bounds::is_below;
 use linetests::bounds::word_fits;
 use linetests::names::is_formula_names;
 use package::FormulaRead;
@@ -12,6 +11,7 @@ use package::RowRead;
 use text::NumAt;
 use text::WordLen;
 use text::bytes::find;
+use words::order::is_below;
 ghost use mathlib.Core.Path.{_≡_};
 ghost use mathlib.Core.List.{List, []};
 ghost use Prim.Native.Nat.{ℕ, _+_, _-_, _<_, _≤_};

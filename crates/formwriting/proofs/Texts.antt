@@ -13,7 +13,7 @@ use Rattle.algebra.specs.Poly.{Term, Poly}
 use Rattle.text.specs.Number.{decimal, writeNumber}
 use Rattle.text.specs.Pieces.{joined}
 use Rattle.text.specs.Word.{writeWord}
-use Rattle.text.proofs.Stores.{sets-append}
+use Rattle.lists.proofs.Stores.{sets-append}
 use Rattle.working.specs.Change.{single}
 use Rattle.working.specs.Working.{termAt, terms, formula}
 use Rattle.working.proofs.Terms.{terms-next, terms-end, terms-at}

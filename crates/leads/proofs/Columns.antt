@@ -6,9 +6,9 @@ use native.Mathlib.Decide.{decLt}
 use native.Mathlib.Omega.{arith}
 use lib.ListN.{length, getD}
 use borrow.Author.Tests.{lt-ltb, le-ltb}
-use Rattle.words.specs.All.{All}
+use Rattle.lists.specs.All.{All}
 use Rattle.words.specs.Word.{Word, Letter}
-use Rattle.words.proofs.Every.{all-at}
+use Rattle.lists.proofs.Every.{all-at}
 use Rattle.leads.specs.Index.{column, columnIn, Marked}
 
 pub column-below : (a : ℕ) → a < 97 → column a ≡ 27

@@ -6,7 +6,7 @@ use native.Mathlib.Omega.{arith}
 use lib.ListN.{length, getD, take, drop}
 use lib.Seq.{getD-take, getD-drop, ext-getD}
 use Rattle.words.specs.Word.{Word, Letter}
-use Rattle.words.proofs.Every.{all-at, all-by-index}
+use Rattle.lists.proofs.Every.{all-at, all-by-index}
 use Rattle.words.proofs.LaidWords.{laid-length, laid-at, laid-word-length}
 use Rattle.leads.specs.Index.{Indexable}
 use Rattle.words.specs.Laid.{laidWord, laidWords, Laid}

@@ -11,7 +11,7 @@ use lib.ListN.{length, getD, drop}
 use lib.Bits.{bitAnd, bitOr}
 use Rattle.words.specs.Word.{Word}
 use Rattle.words.specs.Place.{begins}
-use Rattle.words.proofs.Every.{all-at}
+use Rattle.lists.proofs.Every.{all-at}
 use Rattle.leads.specs.Masks.{bit}
 use Rattle.leads.specs.Index.{column, columnIn, Marked, HasMark, Indexed}
 use Rattle.leads.specs.SpotOfWords.{BegunBy}

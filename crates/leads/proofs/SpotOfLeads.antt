@@ -5,7 +5,7 @@ use mathlib.Core.Logic.{_≢_}
 use mathlib.Core.Option.{Option, some}
 use mathlib.Core.List.{List, [], _∷_, map}
 use Prim.Native.Nat.{ℕ, suc}
-use Rattle.words.specs.All.{All, _also_}
+use Rattle.lists.specs.All.{All, _also_}
 use Rattle.words.specs.Word.{Word}
 use Rattle.words.specs.Place.{begins}
 use Rattle.algebra.specs.Poly.{Poly}

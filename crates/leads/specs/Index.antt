@@ -6,7 +6,7 @@ use Prim.Native.Nat.{ℕ, zero, suc, _+_, _-_, _*_, _^_, _≤_, _<_}
 use lib.Dec.{ltb}
 use lib.ListN.{length, getD, set}
 use lib.Bits.{bitOr}
-use Rattle.words.specs.All.{All}
+use Rattle.lists.specs.All.{All}
 use Rattle.words.specs.Word.{Word, Letter}
 use Rattle.leads.specs.Masks.{bit}
 

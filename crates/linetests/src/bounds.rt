@@ -1,11 +1,9 @@
-// Bounds of coefficients and words, and the order of words.
+// Bounds of coefficients and words.
 
 use text::bytes::all_within;
-use words::Comparison;
-use words::order::compare;
 ghost use mathlib.Core.Path.{_≡_};
 ghost use Prim.Native.Nat.{ℕ, _≤_};
-ghost use Rattle.package.specs.Bounds.{coefFits, wordFits, isBelow};
+ghost use Rattle.package.specs.Bounds.{coefFits, wordFits};
 
 // Whether a coefficient is 1 to p - 1.
 pub fn coef_fits(p: u32, coef: u32) -> bool
@@ -26,16 +24,4 @@ pub fn word_fits(most: usize, letters: u32, w: &[u8]) -> bool
         return false;
     }
     all_within(97, 96 + letters, w)
-}
-
-// Whether the word u is below v.
-pub fn is_below(u: &[u8], v: &[u8]) -> bool
-    ensures { λ r. ⌜ r ≡ isBelow (now (u .entry)) (now (v .entry)) ⌝ }
-{
-    let c = compare(u, v);
-    match c {
-        Comparison::Below => true,
-        Comparison::Equal => false,
-        Comparison::Above => false,
-    }
 }

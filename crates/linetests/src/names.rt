@@ -2,7 +2,7 @@
 
 use text::bytes::is_same;
 ghost use mathlib.Core.Path.{_≡_};
-ghost use Rattle.text.specs.Bytes.{same};
+ghost use Rattle.lists.specs.Same.{same};
 ghost use Rattle.package.specs.Names.{headNames, termNames, sumNames, formulaNames};
 
 // Whether a line is the names line of block 1.

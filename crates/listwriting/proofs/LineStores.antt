@@ -8,7 +8,7 @@ use lib.ListN.{length, take, drop, set, length-append, length-drop}
 use lib.Seq.{sets, take-all}
 use Rattle.words.specs.Word.{Word}
 use Rattle.text.specs.Number.{writeNumber}
-use Rattle.text.proofs.Stores.{sets-append}
+use Rattle.lists.proofs.Stores.{sets-append}
 use Rattle.overlaps.specs.declared.Cursor.{Cursor}
 use Rattle.overlaps.specs.Overlaps.{joined}
 use Rattle.overlaps.specs.Position.{overlapOf}

@@ -7,7 +7,7 @@ use native.Mathlib.Omega.{arith}
 use lib.ListN.{length, length-append}
 use lib.Seq.{sets, length-sets}
 use Rattle.words.specs.Laid.{laidWords, Laid}
-use Rattle.text.proofs.Stores.{sets-append}
+use Rattle.lists.proofs.Stores.{sets-append}
 use Rattle.overlaps.specs.declared.Cursor.{Cursor}
 use Rattle.overlaps.specs.Position.{overlapsAt, overlapOf, behind, origin, ordinal, Short}
 use Rattle.overlaps.specs.Listing.{wordOf, lineOf, overlapLines, allLines}

@@ -8,7 +8,7 @@ use lib.ListN.{length, take, drop, getD, length-append}
 use lib.Seq.{take-at, drop-at, take-append-seam, drop-append-seam}
 use Rattle.field.specs.Field.{Operations, Field}
 use Rattle.field.proofs.Derived.{one-mul}
-use Rattle.words.specs.All.{All, done, _also_}
+use Rattle.lists.specs.All.{All, done, _also_}
 use Rattle.words.specs.Word.{Word, around}
 use Rattle.words.specs.Order.{Order, Lt, Admissible}
 use Rattle.words.specs.Place.{Stands}

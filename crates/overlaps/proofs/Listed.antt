@@ -8,11 +8,11 @@ use native.Mathlib.Nat.{add-zero, add-suc}
 use native.Mathlib.Decide.{ℕ-discrete}
 use native.Mathlib.Omega.{arith}
 use lib.ListN.{length, getD, take, drop}
-use Rattle.words.specs.All.{All, done, _also_}
+use Rattle.lists.specs.All.{All, done, _also_}
 use Rattle.words.specs.Word.{Word}
-use Rattle.words.proofs.Every.{all-map, all-append}
-use Rattle.algebra.specs.Poly.{sameWord}
-use Rattle.algebra.proofs.Coefficients.{same-word, eq-of-same-word}
+use Rattle.lists.proofs.Every.{all-map, all-append}
+use Rattle.lists.specs.Same.{same}
+use Rattle.lists.proofs.Sameness.{same-refl, same-eq}
 use Rattle.overlaps.specs.Overlaps.{Overlap, Overlapping, IsOverlap, Before, Rising, none, next, shares, overlapsFrom, overlapsOf, withFirst, fromFirst, overlaps}
 
 abbrev at : ℕ → ℕ → ℕ → Overlap
@@ -26,11 +26,11 @@ all-member (p also ps) (List·Memᴰ·tail m) = all-member ps m
 module _ (u v : Word) where
   shares-yes : (n : ℕ) → drop (length u - n) u ≡ take n v → shares u v n ≡ true
   unfolding shares
-  shares-yes n e = rw e (same-word (take n v))
+  shares-yes n e = rw e (same-refl (take n v))
 
   shares-eq : (n : ℕ) → shares u v n ≡ true → drop (length u - n) u ≡ take n v
   unfolding shares
-  shares-eq n e = sym (eq-of-same-word (take n v) (drop (length u - n) u) e)
+  shares-eq n e = sym (same-eq (take n v) (drop (length u - n) u) e)
 
   -- what holds of the overlaps from s on, through k numbers
   record From (i j s k : ℕ) (o : Overlap) : Type 0 where

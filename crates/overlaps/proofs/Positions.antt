@@ -15,31 +15,23 @@ use Rattle.words.specs.declared.Found.the-variants.{At, Nowhere}
 use Rattle.words.specs.Word.{Word}
 use Rattle.words.specs.Place.{begins, standsAt}
 use Rattle.words.proofs.Turns.{stands-inside}
-use Rattle.algebra.specs.Poly.{sameWord}
+use Rattle.lists.specs.Same.{same}
 use Rattle.overlaps.specs.declared.Cursor.{Cursor}
 use Rattle.overlaps.specs.Overlaps.{Overlap, shares, overlapsFrom, overlapsOf, withFirst, fromFirst, overlaps}
 use Rattle.overlaps.specs.Position.{nextShared, sharedBy, overlapsAt, overlapOf, behind, pairAfter, origin}
 
 -- of two words of one length, one begins with the other exactly if they are the same
-begins-same : (b w : Word) → length b ≡ length w → begins b w ≡ sameWord b w
-unfolding begins sameWord
+begins-same : (b w : Word) → length b ≡ length w → begins b w ≡ same b w
+unfolding begins same
 begins-same [] [] e = refl
 begins-same [] (y ∷ w) e = absurd (omega arith)
 begins-same (x ∷ b) [] e = absurd (omega arith)
 begins-same (x ∷ b) (y ∷ w) e = go (eqb x y) (begins-same b w (omega arith))
   where
-    go : (t : Bool) → begins b w ≡ sameWord b w
-        → _≡_ {A = Bool} (elim t [ true ↦ begins b w | false ↦ false ]) (elim t [ true ↦ sameWord b w | false ↦ false ])
+    go : (t : Bool) → begins b w ≡ same b w
+        → _≡_ {A = Bool} (elim t [ true ↦ begins b w | false ↦ false ]) (elim t [ true ↦ same b w | false ↦ false ])
     go true h = h
     go false h = refl
-
--- n bytes from a place on, as the code lends them
-pub part-end : (l : List ℕ) (a n : ℕ) → take (a + n - a) (drop a l) ≡ take n (drop a l)
-part-end l a n = let e : a + n - a ≡ n = omega arith in rw e
-
--- the first n bytes, as the code lends them
-pub part-front : (l : List ℕ) (n : ℕ) → take (n - 0) (drop 0 l) ≡ take n l
-part-front l n = let e : n - 0 ≡ n = omega arith in rw e
 
 pub shares-stands : (u v : Word) (n : ℕ) → n ≤ length u → n ≤ length v → standsAt (take n v) u (length u - n) ≡ shares u v n
 unfolding shares

@@ -6,9 +6,10 @@ use mathlib.Core.List.{List, [], _∷_, _++_}
 use Prim.Native.Nat.{ℕ, zero, suc, _-_, _≤_, _<_, min}
 use lib.ListN.{length, take, drop, getD}
 use Rattle.field.specs.Field.{Operations}
-use Rattle.words.specs.All.{All}
+use Rattle.lists.specs.All.{All}
 use Rattle.words.specs.Word.{Word}
-use Rattle.algebra.specs.Poly.{Poly, sameWord, shift, sub}
+use Rattle.algebra.specs.Poly.{Poly, shift, sub}
+use Rattle.lists.specs.Same.{same}
 use Rattle.algebra.specs.Ideal.{Family}
 use Rattle.algebra.specs.Groebner.{lead}
 
@@ -42,8 +43,8 @@ pub data Rising : List Overlap → Type 0 where
 
 -- The last n letters of u are the first n of v.
 unfoldable pub shares : Word → Word → ℕ → Bool
-unfolding sameWord
-shares u v n = sameWord (take n v) (drop (length u - n) u)
+unfolding same
+shares u v n = same (take n v) (drop (length u - n) u)
 
 -- The overlaps of polynomials i and j with leading words u and v: shared rises from s on, through k numbers.
 unfoldable pub overlapsFrom : Word → Word → ℕ → ℕ → ℕ → ℕ → List Overlap

@@ -6,6 +6,7 @@ use Prim.Native.Nat.{ℕ, zero, suc, _+_, _-_, _≤_, _<_}
 use native.Mathlib.Omega.{arith}
 use lib.ListN.{length, getD, take, drop, length-take, length-drop}
 use lib.Seq.{take-take, drop-drop}
+use Rattle.lists.proofs.Parts.{drop-take}
 use Rattle.field.specs.Field.{Operations, Field}
 use Rattle.words.specs.Word.{Word, around}
 use Rattle.words.specs.Order.{Order, Admissible}
@@ -19,24 +20,13 @@ use Rattle.algebra.proofs.WrittenForm.{written-multiple, written-of-written}
 use Rattle.algebra.specs.Written.{Written, plus, written}
 use Rattle.overlaps.specs.Overlaps.{Overlap, leads, overlapWord, difference}
 use Rattle.overlaps.specs.Position.{overlapOf}
-use Rattle.package.specs.Bounds.{isBelow}
+use Rattle.words.specs.Below.{isBelow}
 use Rattle.working.specs.Family.{familyAt}
 use Rattle.overlapwords.specs.declared.OverlapAt.{OverlapAt}
 use Rattle.sumlines.specs.declared.SumAt.{SumAt}
 use Rattle.sumlines.specs.Heads.{HeadsOf}
 use Rattle.sumlines.specs.Lines.{takenLine}
 use Rattle.overlapwords.specs.OverlapPlaces.{cursorOf, laidOverlap, laidTop}
-
-take-nothing : (m : ℕ) → take {A = ℕ} m [] ≡ []
-take-nothing zero = refl
-take-nothing (suc m) = refl
-
-drop-take : (k n : ℕ) (xs : List ℕ) → drop k (take n xs) ≡ take (n - k) (drop k xs)
-drop-take zero n xs = let e : n - 0 ≡ n = omega arith in rw e
-drop-take (suc k) zero [] = sym (take-nothing (0 - suc k))
-drop-take (suc k) zero (x ∷ xs) = let e : 0 - suc k ≡ 0 = omega arith in rw e
-drop-take (suc k) (suc n) [] = sym (take-nothing (suc n - suc k))
-drop-take (suc k) (suc n) (x ∷ xs) = let e : suc n - suc k ≡ n - k = omega arith in rw e (drop-take k n xs)
 
 -- the rest of a word behind k letters
 rest-part : (bytes : List ℕ) (s n k : ℕ) → take (n - k) (drop (s + k) bytes) ≡ drop k (take n (drop s bytes))

@@ -2,16 +2,16 @@
 
 use crate::OverlapAt;
 use field::arithmetic::neg;
-use linetests::bounds::is_below;
 use multiples::family::add_numbered;
 use multiples::placing::place_numbered;
 use sumlines::SumAt;
+use words::order::is_below;
 use working::letters::compose;
 ghost use mathlib.Core.Path.{_≡_};
 ghost use Prim.Native.Nat.{_+_, _≤_};
 ghost use lib.ListN.{length, take};
 ghost use Rattle.field.specs.Field.{Field, fieldOf};
-ghost use Rattle.words.specs.All.{All};
+ghost use Rattle.lists.specs.All.{All};
 ghost use Rattle.words.specs.Order.{wordOrder};
 ghost use Rattle.words.specs.Word.{around};
 ghost use Rattle.words.specs.Laid.{laidWord, Laid};
@@ -19,7 +19,7 @@ ghost use Rattle.algebra.specs.Ideal.{family};
 ghost use Rattle.algebra.specs.Written.{Written, written};
 ghost use Rattle.overlaps.specs.Overlaps.{difference};
 ghost use Rattle.overlaps.specs.Position.{overlapOf, Short};
-ghost use Rattle.package.specs.Bounds.{isBelow};
+ghost use Rattle.words.specs.Below.{isBelow};
 ghost use Rattle.working.specs.Working.{formula, Working};
 ghost use Rattle.working.specs.Family.{familyAt, Terms, Runs};
 ghost use Rattle.sumlines.specs.Heads.{HeadsOf};

@@ -8,13 +8,14 @@ use lib.Dec.{ltb, eqb}
 use lib.ListN.{length, take, drop, length-drop}
 use lib.Seq.{drop-drop, length-take-le}
 use borrow.Author.Tests.{lt-ltb, le-ltb, eq-eqb, ne-eqb, ltb-true}
-use Rattle.package.specs.Bounds.{coefFits, wordFits, isBelow}
+use Rattle.package.specs.Bounds.{coefFits, wordFits}
+use Rattle.words.specs.Below.{isBelow}
 use Rattle.package.specs.Formula.{TermRow, noRow, row, rowForm, rowFits, rowJudged, judgeRow}
 use Rattle.package.specs.Held.{seenRow, reachRow}
 use Rattle.package.specs.declared.Limits.{Limits}
 use Rattle.package.specs.declared.RowRead.{RowRead}
 use Rattle.package.specs.declared.RowRead.the-variants.{NoRow, Row}
-use Rattle.text.proofs.Cutting.{part-part}
+use Rattle.lists.proofs.Parts.{part-part}
 use Rattle.text.specs.Field.{none, some, numThen, wordLast}
 use Rattle.text.specs.Number.{number}
 use Rattle.text.specs.Pieces.{Pieces, fields, part}

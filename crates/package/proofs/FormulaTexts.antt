@@ -9,17 +9,19 @@ use lib.Dec.{ltb, eqb}
 use lib.ListN.{length, length-append}
 use Rattle.package.proofs.FormulaLines.{row-no-coef, row-no-word, row-whole, row-shapeless}
 use Rattle.package.proofs.LineBounds.{coef-below, word-letters}
-use Rattle.package.specs.Bounds.{coefFits, wordFits, isBelow}
+use Rattle.package.specs.Bounds.{coefFits, wordFits}
+use Rattle.words.specs.Below.{isBelow}
 use Rattle.algebra.specs.Poly.{Term}
 use Rattle.package.specs.Formula.{wrongAt, formula, TermRow, noRow, row, rowForm, rowFits, rowJudged, judgeRow, ended, rows, formulaLines, readFormula}
 use Rattle.package.specs.Names.{formulaNames}
 use Rattle.package.specs.Readable.{RowsInOrder, noRows, rowThen}
 use Rattle.package.specs.Writing.{rowFields, rowLines, writeFormula}
 use Rattle.package.specs.declared.Limits.{Limits}
-use Rattle.text.proofs.Bytewise.{same-equal}
+use Rattle.lists.proofs.Sameness.{same-eq}
 use Rattle.text.proofs.FieldTexts.{starts-number, number-starts, ends-word, word-ends, number-clear, word-clear}
 use Rattle.text.proofs.PieceTexts.{joined-pieces, fields-written, lines-written, without-joined, without-final}
-use Rattle.text.specs.Bytes.{same, allWithin}
+use Rattle.text.specs.Bytes.{allWithin}
+use Rattle.lists.specs.Same.{same}
 use Rattle.text.specs.Field.{Got, none, some, numThen, wordLast}
 use Rattle.text.specs.Number.{number, writeNumber}
 use Rattle.text.specs.Pieces.{Pieces, final, piece, onto, pieces, lines, fields, writeFields, writeLines, Without, empty, Clear, clear, clears}
@@ -175,7 +177,7 @@ formula-lines-text p letters lim ts (piece l ls) e = go (same l formulaNames) re
     go true q =
         let z = rows-text p letters lim ts ls [] [] 2 (rw (formulaLines, q) at e) in
         let m : z .more ≡ ts = sym (z .terms) in
-        (subst (RowsInOrder p letters lim [] 0) m (z .order), ap₂ piece (same-equal l formulaNames q) (z .cut ∙ ap rowLines m))
+        (subst (RowsInOrder p letters lim [] 0) m (z .order), ap₂ piece (same-eq l formulaNames q) (z .cut ∙ ap rowLines m))
 
 pub formula-reads : (p letters : ℕ) (lim : Limits) (s : List ℕ) (ts : List Term) → readFormula p letters lim s ≡ formula ts
     → RowsInOrder p letters lim [] 0 ts × (s ≡ writeFormula ts)

@@ -9,7 +9,8 @@ use native.Mathlib.Decide.{ℕ-discrete, decLt}
 use lib.Dec.{ltb, eqb}
 use lib.ListN.{take}
 use borrow.Author.Tests.{lt-ltb, le-ltb, eq-eqb, ne-eqb, ltb-true, eqb-true}
-use Rattle.package.specs.Bounds.{coefFits, wordFits, isBelow}
+use Rattle.package.specs.Bounds.{coefFits, wordFits}
+use Rattle.words.specs.Below.{isBelow}
 use Rattle.package.specs.Items.{slot, slotsOf, firstOf, itemRun, itemTerms}
 use Rattle.package.specs.Package.{Package, packageLimits}
 use Rattle.package.specs.Readable.{under, TermsInOrder, noTerms, termThen, Readable}

@@ -21,7 +21,7 @@ use Rattle.package.specs.declared.Limits.{Limits}
 use Rattle.package.specs.declared.Sums.{Sums}
 use Rattle.package.specs.declared.Sums.the-variants.{Fault, Sound}
 use Rattle.text.proofs.Cutting.{cut-more, cut-end}
-use Rattle.text.specs.Bytes.{same}
+use Rattle.lists.specs.Same.{same}
 use Rattle.text.specs.Pieces.{Pieces, lines, fields, stop, part}
 
 -- What the answers of the blocks say.

@@ -22,9 +22,9 @@ use Rattle.package.specs.Sums.{SumLine, Block3, refused3, fine, block3, 
 use Rattle.package.specs.Terms.{TermLine, start, Block2, refused2, ended2, block2}
 use Rattle.package.specs.Writing.{headFields, termLines, sumLines, packageLines, writePackage}
 use Rattle.package.specs.declared.Head.{Head}
-use Rattle.text.proofs.Bytewise.{same-equal}
+use Rattle.lists.proofs.Sameness.{same-eq}
 use Rattle.text.proofs.PieceTexts.{joined-pieces, lines-written, without-final}
-use Rattle.text.specs.Bytes.{same}
+use Rattle.lists.specs.Same.{same}
 use Rattle.text.specs.Pieces.{Pieces, final, piece, onto, pieces, lines, fields, writeFields, writeLines, Without, Clear, clears}
 
 -- Names lines hold no byte 10.
@@ -145,7 +145,7 @@ module _ (P : Package) where
       go false q = absurd (refused-not 2 3 (rw (line3, q) at e))
       go true q =
           let b = lower-text h ls (rw (line3, q) at e) in
-          record { rest = ls; lower = b; cut = ap₂ piece (same-equal l termNames q) (b .cut) }
+          record { rest = ls; lower = b; cut = ap₂ piece (same-eq l termNames q) (b .cut) }
 
   -- Line 2 and what is below it.
   line2-text : (ps : Pieces) → line2 packageLimits ps ≡ read P → Readable P × (ps ≡ piece (writeFields (headFields (P .head))) lowerLines)
@@ -184,7 +184,7 @@ module _ (P : Package) where
       go false q = absurd (refused-not 2 1 (rw (line1, q) at e))
       go true q =
           let t = line2-text ls (rw (line1, q) at e) in
-          (t .0, ap₂ piece (same-equal l headNames q) (t .1))
+          (t .0, ap₂ piece (same-eq l headNames q) (t .1))
 
   pub reads-written : (s : List ℕ) → readPackage s ≡ read P → Readable P × (s ≡ writePackage P) × (length s ≤ 65536)
   unfolding readPackage writePackage

@@ -14,9 +14,9 @@ use Rattle.package.specs.Terms.{TermLine, TermForm, noTerm, term, termFo
 use Rattle.package.specs.Writing.{termFields, termLines}
 use Rattle.package.specs.declared.Head.{Head}
 use Rattle.package.specs.declared.Limits.{Limits}
-use Rattle.text.proofs.Bytewise.{same-equal}
+use Rattle.lists.proofs.Sameness.{same-eq}
 use Rattle.text.proofs.PieceTexts.{joined-pieces}
-use Rattle.text.specs.Bytes.{same}
+use Rattle.lists.specs.Same.{same}
 use Rattle.text.specs.Pieces.{Pieces, final, piece, fields, writeFields}
 use Rattle.text.specs.Word.{word}
 
@@ -80,7 +80,7 @@ module _ (h : Head) (lim : Limits) (ts : List TermLine) (n′ : ℕ) (ms : Piece
             more = [];
             terms = sym x ∙ sym (append-nil ts₀);
             line = omega arith;
-            cut = ap₂ piece (same-equal l sumNames q) w;
+            cut = ap₂ piece (same-eq l sumNames q) w;
             order = noTerms;
           }
       by-names false q ih = by-verdict (judgeTerm h lim a (length ts₀) l) refl

@@ -15,7 +15,7 @@ use Rattle.package.specs.declared.Last.{Last}
 use Rattle.package.specs.declared.Limits.{Limits}
 use Rattle.package.specs.declared.TermJudged.{TermJudged}
 use Rattle.package.specs.declared.TermJudged.the-variants.{Refuse, Accept}
-use Rattle.text.proofs.Cutting.{part-part}
+use Rattle.lists.proofs.Parts.{part-part}
 use Rattle.text.specs.Pieces.{pieces, fields, part}
 
 -- A line that has its shape.

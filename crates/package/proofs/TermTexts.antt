@@ -9,10 +9,12 @@ use Rattle.package.specs.Examples.{cut}
 use Rattle.package.specs.Names.{sumNames, termKinds}
 use Rattle.package.specs.Terms.{noTerm, term, termForm}
 use Rattle.package.specs.Writing.{termFields}
-use Rattle.text.proofs.Bytewise.{within-bounds, same-equal}
+use Rattle.text.proofs.Bytewise.{within-bounds}
+use Rattle.lists.proofs.Sameness.{same-eq}
 use Rattle.text.proofs.FieldTexts.{starts-number, number-starts, ends-word, word-ends, kind-starts, starts-kind, number-clear, word-clear}
 use Rattle.text.proofs.PieceTexts.{fields-written, without-joined}
-use Rattle.text.specs.Bytes.{same, within, allWithin}
+use Rattle.text.specs.Bytes.{within, allWithin}
+use Rattle.lists.specs.Same.{same}
 use Rattle.text.specs.Field.{Got, none, some, numThen, wordLast, rankFrom, rank, writeKind}
 use Rattle.text.specs.Number.{number, writeNumber}
 use Rattle.text.specs.Pieces.{Pieces, piece, onto, pieces, fields, writeFields, Without, empty, apart, Clear, clear, clears}
@@ -115,5 +117,5 @@ module _ (k i c : ℕ) (w : List ℕ) (r : within 1 2 k ≡ true) (l : allWithin
       go : (t : Bool) → same (writeFields (termFields k i c w)) sumNames ≡ t → t ≡ false
       go false e = refl
       go true e =
-          let q : termFields k i c w ≡ fields sumNames = sym term-fields ∙ ap fields (same-equal (writeFields (termFields k i c w)) sumNames e) in
+          let q : termFields k i c w ≡ fields sumNames = sym term-fields ∙ ap fields (same-eq (writeFields (termFields k i c w)) sumNames e) in
           absurd (let y : _≡_ {A = ℕ} 0 1 = cc in omega arith)

@@ -1,12 +1,10 @@
--- Bounds of coefficients and words, and the order of words.
+-- Bounds of coefficients and words.
 use mathlib.Core.Bool.{Bool, true, false}
 use mathlib.Core.List.{List}
 use Prim.Native.Nat.{ℕ, _+_}
 use lib.Dec.{ltb}
 use lib.ListN.{length}
 use Rattle.text.specs.Bytes.{allWithin}
-use Rattle.words.specs.Order.{wordOrder}
-use Rattle.words.specs.declared.Comparison.the-variants.{Below, Equal, Above}
 
 -- Coefficients are 1 to p - 1.
 unfoldable pub coefFits : ℕ → ℕ → Bool
@@ -16,8 +14,3 @@ coefFits p c = elim (ltb 0 c) [ false ↦ false | true ↦ ltb c p ]
 unfoldable pub wordFits : ℕ → ℕ → List ℕ → Bool
 unfolding allWithin
 wordFits most letters w = elim (ltb most (length w)) [ true ↦ false | false ↦ allWithin 97 (96 + letters) w ]
-
--- u is below v in document 01's order.
-unfoldable pub isBelow : List ℕ → List ℕ → Bool
-unfolding wordOrder
-isBelow u v = elim (wordOrder u v) [ Below ↦ true | Equal ↦ false | Above ↦ false ]

@@ -5,10 +5,11 @@ use Prim.Native.Nat.{ℕ, suc}
 use lib.Dec.{ltb, eqb}
 use lib.ListN.{length}
 use Rattle.algebra.specs.Poly.{Term}
-use Rattle.package.specs.Bounds.{coefFits, wordFits, isBelow}
+use Rattle.package.specs.Bounds.{coefFits, wordFits}
+use Rattle.words.specs.Below.{isBelow}
 use Rattle.package.specs.Names.{formulaNames}
 use Rattle.package.specs.declared.Limits.{Limits}
-use Rattle.text.specs.Bytes.{same}
+use Rattle.lists.specs.Same.{same}
 use Rattle.text.specs.Field.{none, some, numThen, wordLast}
 use Rattle.text.specs.Number.{number}
 use Rattle.text.specs.Pieces.{Pieces, final, piece, pieces, lines, fields}

@@ -4,12 +4,13 @@ use mathlib.Core.List.{List, [], _∷_}
 use Prim.Native.Nat.{ℕ, suc, _+_, _-_}
 use lib.Dec.{ltb, eqb}
 use lib.ListN.{take, drop}
+use Rattle.package.specs.Names.{termG}
 use Rattle.package.specs.Terms.{TermLine}
 use Rattle.package.specs.declared.Head.{Head}
 
 -- The number of item i of a kind among all items, counted from 1.
 unfoldable pub slot : Head → ℕ → ℕ → ℕ
-slot h k i = elim (eqb k 1) [ true ↦ i | false ↦ h .gens + i ]
+slot h k i = elim (eqb k termG) [ true ↦ i | false ↦ h .gens + i ]
 
 -- The numbers of the items that terms belong to.
 unfoldable pub slotsOf : Head → List TermLine → List ℕ

@@ -19,10 +19,30 @@ sumNames = ascii "kind item coef left of right"
 abbrev pub formulaNames : List ℕ
 formulaNames = ascii "coef word"
 
--- The kinds of block 2 in their order: G (relations) has rank 1, B (basis) 2.
+-- The kinds of block 2 in their order: G (relations), then B (basis). A kind goes by its rank, its place in this list counted from 1.
 abbrev pub termKinds : List ℕ
 termKinds = ascii "GB"
 
--- The kinds of block 3 in their order: B has rank 1, G 2, O (overlaps) 3.
+-- The ranks of the kinds of block 2. Terms of relations.
+abbrev pub termG : ℕ
+termG = 1
+
+-- Terms of basis polynomials.
+abbrev pub termB : ℕ
+termB = 2
+
+-- The kinds of block 3 in their order: B, then G, then O (overlaps).
 abbrev pub sumKinds : List ℕ
 sumKinds = ascii "BGO"
+
+-- The ranks of the kinds of block 3. Sums that equal basis polynomials.
+abbrev pub sumB : ℕ
+sumB = 1
+
+-- Sums that equal relations.
+abbrev pub sumG : ℕ
+sumG = 2
+
+-- Sums that equal differences of overlaps.
+abbrev pub sumO : ℕ
+sumO = 3

@@ -10,7 +10,7 @@ use Rattle.package.specs.Sums.{SumLine, refused3, fine, block3, sumsOf}
 use Rattle.package.specs.Terms.{TermLine, start, refused2, ended2, block2}
 use Rattle.package.specs.declared.Head.{Head}
 use Rattle.package.specs.declared.Limits.{Limits}
-use Rattle.text.specs.Bytes.{same}
+use Rattle.lists.specs.Same.{same}
 use Rattle.text.specs.Pieces.{Pieces, final, piece, pieces, lines, fields}
 
 -- A package that reads: the counts of line 2, the term lines of block 2 and the sum lines of block 3.

@@ -7,6 +7,7 @@ use lib.ListN.{length}
 use Rattle.algebra.specs.Poly.{Term}
 use Rattle.package.specs.Formula.{rowFits}
 use Rattle.package.specs.Head.{primeFits, countsFit}
+use Rattle.package.specs.Names.{termG, termB, sumB, sumO}
 use Rattle.package.specs.Package.{Package, packageLimits}
 use Rattle.package.specs.Sums.{SumLine, sumFits, sumFollows}
 use Rattle.package.specs.Terms.{TermLine, termFits, LineAbove, start, follows, counted, hasRoom}
@@ -22,7 +23,7 @@ under a t = record { kind = t .kind; item = t .item; word = t .word; count = cou
 
 -- A term behind n terms, below the line above: its kind is one of block 2, and none of 5, 6, 7 is met.
 pub record TermInOrder (h : Head) (m : Limits) (a : LineAbove) (n : ℕ) (t : TermLine) : Type 0 where
-  pub ranked : within 1 2 (t .kind) ≡ true
+  pub ranked : within termG termB (t .kind) ≡ true
   pub fits : termFits h m (t .kind) (t .item) (t .coef) (t .word) ≡ true
   pub order : follows a (t .kind) (t .item) (t .word) ≡ true
   pub room : hasRoom m a n (t .kind) (t .item) ≡ true
@@ -34,7 +35,7 @@ pub data TermsInOrder (h : Head) (m : Limits) : LineAbove → ℕ → List TermL
 -- A sum line with line number n, below a line of kind k′ and item i′: its kind is one of block 3, its item has at most five digits, and neither 5 nor 6 is met.
 pub record SumInOrder (h : Head) (m : Limits) (k′ i′ n : ℕ) (x : SumLine) : Type 0 where
   pub numbered : x .line ≡ n
-  pub ranked : within 1 3 (x .kind) ≡ true
+  pub ranked : within sumB sumO (x .kind) ≡ true
   pub digits : x .item < 100000
   pub fits : sumFits h m (x .kind) (x .item) (x .coef) (x .left) (x .of) (x .right) ≡ true
   pub order : sumFollows k′ i′ (x .kind) (x .item) ≡ true

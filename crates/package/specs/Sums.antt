@@ -4,7 +4,7 @@ use mathlib.Core.List.{List, [], _∷_}
 use Prim.Native.Nat.{ℕ, suc}
 use lib.Dec.{leb, ltb, eqb}
 use Rattle.package.specs.Bounds.{coefFits, wordFits}
-use Rattle.package.specs.Names.{sumKinds}
+use Rattle.package.specs.Names.{sumKinds, sumB, sumG}
 use Rattle.package.specs.declared.Head.{Head}
 use Rattle.package.specs.declared.Limits.{Limits}
 use Rattle.text.specs.Bytes.{within}
@@ -51,11 +51,11 @@ sumForm ps = elim (numThen (rank sumKinds) ps) [
 -- The item of a B line is a basis polynomial, of a G line a relation; an O item has no upper bound but refusal 15's.
 unfoldable pub sumItemFits : Head → ℕ → ℕ → Bool
 unfolding within
-sumItemFits h k i = elim (eqb k 1) [ true ↦ within 1 (h .basis) i | false ↦ elim (eqb k 2) [ true ↦ within 1 (h .gens) i | false ↦ leb 1 i ] ]
+sumItemFits h k i = elim (eqb k sumB) [ true ↦ within 1 (h .basis) i | false ↦ elim (eqb k sumG) [ true ↦ within 1 (h .gens) i | false ↦ leb 1 i ] ]
 
 -- `of` names a relation for kind B, a basis polynomial for G and O.
 unfoldable pub ofs : Head → ℕ → ℕ
-ofs h k = elim (eqb k 1) [ true ↦ h .gens | false ↦ h .basis ]
+ofs h k = elim (eqb k sumB) [ true ↦ h .gens | false ↦ h .basis ]
 
 -- Not refusal 5: item, coef, `of`, letters and word lengths are in bounds.
 unfoldable pub sumFits : Head → Limits → ℕ → ℕ → ℕ → List ℕ → ℕ → List ℕ → Bool

@@ -4,11 +4,13 @@ use mathlib.Core.List.{List, [], _∷_, _++_}
 use Prim.Native.Nat.{ℕ, suc}
 use lib.Dec.{ltb, eqb}
 use lib.ListN.{length}
-use Rattle.package.specs.Bounds.{coefFits, wordFits, isBelow}
-use Rattle.package.specs.Names.{sumNames, termKinds}
+use Rattle.package.specs.Bounds.{coefFits, wordFits}
+use Rattle.words.specs.Below.{isBelow}
+use Rattle.package.specs.Names.{sumNames, termKinds, termG}
 use Rattle.package.specs.declared.Head.{Head}
 use Rattle.package.specs.declared.Limits.{Limits}
-use Rattle.text.specs.Bytes.{same, within}
+use Rattle.text.specs.Bytes.{within}
+use Rattle.lists.specs.Same.{same}
 use Rattle.text.specs.Field.{none, some, numThen, wordLast, rank}
 use Rattle.text.specs.Number.{number}
 use Rattle.text.specs.Pieces.{Pieces, final, piece, pieces, fields}
@@ -42,7 +44,7 @@ termForm ps = elim (numThen (rank termKinds) ps) [
 
 -- How many items a kind of block 2 has: relations for G, basis polynomials for B.
 unfoldable pub itemsOf : Head → ℕ → ℕ
-itemsOf h k = elim (eqb k 1) [ true ↦ h .gens | false ↦ h .basis ]
+itemsOf h k = elim (eqb k termG) [ true ↦ h .gens | false ↦ h .basis ]
 
 -- Not refusal 5: item, coef, letters and word length are in bounds.
 unfoldable pub termFits : Head → Limits → ℕ → ℕ → ℕ → List ℕ → Bool

@@ -12,8 +12,8 @@ use Rattle.overlaps.specs.Overlaps.{leads, overlaps}
 use Rattle.overlaps.specs.Listing.{overlapText}
 use Rattle.package.specs.Package.{Outcome, refused, read}
 use Rattle.acceptance.specs.Content.{basis}
-use Rattle.vaultgarlic.specs.declared.Listed.{Listed}
-use Rattle.vaultgarlic.specs.Services.{wordsListed, fitted, listAnswer, listOutput, listable, listedAs, listedInto}
+use Rattle.services.specs.declared.Listed.{Listed}
+use Rattle.services.specs.Services.{wordsListed, fitted, listAnswer, listOutput, listable, listedAs, listedInto}
 use Rattle.printing.specs.Printed.{refusedLine, listOf, printedFor, printedText}
 
 some : {n : ℕ} → suc n ≡ 0 → ⊥

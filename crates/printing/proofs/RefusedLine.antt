@@ -7,7 +7,7 @@ use lib.ListN.{length, length-append, set}
 use lib.Seq.{sets}
 use Rattle.text.specs.Ascii.{ascii}
 use Rattle.text.specs.Number.{writeNumber}
-use Rattle.text.proofs.Stores.{sets-append}
+use Rattle.lists.proofs.Stores.{sets-append}
 use Rattle.printing.specs.Printed.{numberThen, refusedLine}
 
 stored-then : (l l₁ l₂ : List ℕ) (at a : ℕ) (xs ys : List ℕ) → l₁ ≡ sets l at xs → a ≡ at + length xs → l₂ ≡ sets l₁ a ys → l₂ ≡ sets l at (xs ++ ys)

@@ -10,8 +10,8 @@ use Rattle.package.specs.Package.{Outcome, refused, read}
 use Rattle.overlaps.specs.Overlaps.{leads}
 use Rattle.overlaps.specs.Listing.{overlapText}
 use Rattle.acceptance.specs.Content.{basis}
-use Rattle.vaultgarlic.specs.declared.Listed.{Listed}
-use Rattle.vaultgarlic.specs.Services.{listable, listedAs}
+use Rattle.services.specs.declared.Listed.{Listed}
+use Rattle.services.specs.Services.{listable, listedAs}
 
 -- A number and one byte behind it.
 abbrev pub numberThen : ℕ → ℕ → List ℕ

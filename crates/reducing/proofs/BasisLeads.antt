@@ -4,9 +4,9 @@ use mathlib.Core.List.{List, [], _∷_, map}
 use Prim.Native.Nat.{ℕ, zero, suc, _≤_}
 use native.Mathlib.Omega.{arith}
 use lib.ListN.{length, length-map}
-use Rattle.words.specs.All.{All, done, _also_}
+use Rattle.lists.specs.All.{All, done, _also_}
 use Rattle.words.specs.Word.{Word, Letter}
-use Rattle.words.proofs.Every.{all-map}
+use Rattle.lists.proofs.Every.{all-map}
 use Rattle.algebra.specs.Poly.{Poly}
 use Rattle.algebra.specs.Groebner.{lead}
 use Rattle.leads.specs.Index.{Indexable, Indexed}

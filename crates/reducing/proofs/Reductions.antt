@@ -17,9 +17,9 @@ use Rattle.package.proofs.LineBounds.{head-bounds}
 use Rattle.acceptance.specs.Content.{basis}
 use Rattle.acceptance.proofs.FormulaSlices.{formula-held, held-written, held-short, held-given}
 use Rattle.checking.specs.Answer.{basisIn}
-use Rattle.accepting.specs.Acceptance.{acceptance}
+use Rattle.acceptance.specs.Acceptance.{acceptance}
 use Rattle.accepting.specs.Slices.{PackageAccepted}
-use Rattle.reducing.specs.Reduction.{formulaLimits, Reduction, refusedBy, reductionOf, formulaReduced, packageReduced, reduction}
+use Rattle.acceptance.specs.Reduction.{formulaLimits, Reduction, refusedBy, reductionOf, formulaReduced, packageReduced, reduction}
 use Rattle.reducing.specs.Slices.{FormulaRead}
 
 -- A package that is refused.

@@ -13,7 +13,7 @@ use Rattle.package.specs.Formula.{formula, readFormula}
 use Rattle.shortform.specs.Basis.{ShortWords}
 use Rattle.reducing.specs.declared.Reduced.{Reduced}
 use Rattle.reducing.specs.declared.Reduced.the-variants.{Refused, Short}
-use Rattle.reducing.specs.Reduction.{formulaLimits, Reduction, refusedBy, shortForm}
+use Rattle.acceptance.specs.Reduction.{formulaLimits, Reduction, refusedBy, shortForm}
 
 -- The formula's bytes are read as the polynomial that lies in the slices, of at most 48 terms.
 pub record FormulaRead (h : Head) (fc fs fl text : List ℕ) : Type 0 where

@@ -21,7 +21,7 @@ ghost use Rattle.working.specs.Working.{Room};
 ghost use Rattle.sumlines.specs.Room.{Places};
 ghost use Rattle.checking.specs.Answer.{basisIn};
 ghost use Rattle.accepting.specs.Slices.{PackageAccepted};
-ghost use Rattle.reducing.specs.Reduction.{reduction};
+ghost use Rattle.acceptance.specs.Reduction.{reduction};
 ghost use Rattle.reducing.specs.Slices as lying;
 ghost use Rattle.reducing.specs.Slices.{seenReduced, ShortHeld};
 

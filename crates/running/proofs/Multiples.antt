@@ -7,11 +7,11 @@ use native.Mathlib.Omega.{arith}
 use lib.ListN.{length, take, drop}
 use lib.Seq.{split-at, take-at, length-take-le}
 use Rattle.field.specs.Field.{Operations, Field}
-use Rattle.words.specs.All.{All, done, _also_}
+use Rattle.lists.specs.All.{All, done, _also_}
 use Rattle.words.specs.Word.{around}
 use Rattle.words.specs.Order.{Order, Lt, Admissible, wordOrder}
 use Rattle.words.proofs.Admissible.{Le, le-lt-trans}
-use Rattle.words.proofs.Every.{all-map, all-split}
+use Rattle.lists.proofs.Every.{all-map, all-split}
 use Rattle.words.proofs.WordOrder.{word-order-admissible}
 use Rattle.algebra.specs.Poly.{Term, Poly, scale, shift}
 use Rattle.algebra.specs.Written.{Written, term, insert, plus}

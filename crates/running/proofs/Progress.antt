@@ -7,7 +7,7 @@ use native.Mathlib.Numerals.{add-one}
 use native.Mathlib.Omega.{arith}
 use lib.ListN.{length}
 use Rattle.field.specs.Field.{Operations, Field, fieldOf}
-use Rattle.words.specs.All.{done}
+use Rattle.lists.specs.All.{done}
 use Rattle.words.specs.Order.{wordOrder}
 use Rattle.words.proofs.WordOrder.{word-order-admissible}
 use Rattle.algebra.specs.Poly.{Poly}

@@ -3,7 +3,7 @@ use mathlib.Core.Path.{_≡_}
 use mathlib.Core.List.{List, []}
 use Prim.Native.Nat.{ℕ, _<_}
 use lib.ListN.{length, getD, take}
-use Rattle.words.specs.All.{All}
+use Rattle.lists.specs.All.{All}
 use Rattle.algebra.specs.Poly.{Term, Poly}
 use Rattle.algebra.specs.Spot.{spot, nowhere, Target, reduced, reducible, target}
 use Rattle.leads.specs.SpotOfWords.{seen}

@@ -7,7 +7,7 @@ use lib.ListN.{length, getD, take, drop}
 use Rattle.field.specs.Field.{fieldOf}
 use Rattle.words.specs.Word.{Word}
 use Rattle.words.specs.Order.{wordOrder}
-use Rattle.words.proofs.Every.{all-at}
+use Rattle.lists.proofs.Every.{all-at}
 use Rattle.algebra.specs.Poly.{Term, Poly, scale, shift}
 use Rattle.algebra.specs.Written.{plus}
 use Rattle.algebra.specs.Ideal.{family}

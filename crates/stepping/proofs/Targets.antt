@@ -5,8 +5,8 @@ use Prim.Native.Nat.{ℕ, suc, _+_, _≤_, _<_}
 use native.Mathlib.Numerals.{add-one}
 use lib.ListN.{length, take, drop}
 use lib.Seq.{take-suc, take-all, split-at}
-use Rattle.words.specs.All.{All, done, _also_}
-use Rattle.words.proofs.Every.{all-append}
+use Rattle.lists.specs.All.{All, done, _also_}
+use Rattle.lists.proofs.Every.{all-append}
 use Rattle.algebra.specs.Poly.{Term, Poly}
 use Rattle.algebra.specs.Spot.{spot, nowhere, found, reduced, reducible, targetOf, target}
 use Rattle.working.specs.Change.{single}

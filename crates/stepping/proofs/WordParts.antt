@@ -6,6 +6,7 @@ use Prim.Native.Nat.{ℕ, zero, suc, _+_, _-_, _≤_}
 use native.Mathlib.Omega.{arith}
 use lib.ListN.{length, take, drop, length-append, length-drop}
 use lib.Seq.{take-take, drop-drop, length-take-le}
+use Rattle.lists.proofs.Parts.{drop-take, part-length}
 use Rattle.words.specs.Word.{Word}
 use Rattle.algebra.specs.Poly.{Poly}
 use Rattle.algebra.specs.Ideal.{family}
@@ -43,16 +44,6 @@ module _ (ps : List Poly) (v : Word) (i g : ℕ) (e : spot ps v ≡ found i g) w
       let t : length (take i v) ≡ i = length-take-le i v a in
       omega arith
 
-drop-take : (a b : ℕ) (xs : List ℕ) → drop a (take b xs) ≡ take (b - a) (drop a xs)
-drop-take zero b xs = let e : b - 0 ≡ b = omega arith in rw e
-drop-take (suc a) zero xs = let e : 0 - suc a ≡ 0 = omega arith in rw e
-drop-take (suc a) (suc b) [] = go (suc b - suc a)
-  where
-    go : (k : ℕ) → _≡_ {A = List ℕ} [] (take k [])
-    go zero = refl
-    go (suc k) = refl
-drop-take (suc a) (suc b) (x ∷ xs) = let e : suc b - suc a ≡ b - a = omega arith in rw e (drop-take a b xs)
-
 -- the word from start to end
 module _ (w : List ℕ) (start end i n : ℕ) (h : start + i + n ≤ end) where
   pub left-part : take (start + i - start) (drop start w) ≡ take i (take (end - start) (drop start w))
@@ -65,4 +56,4 @@ module _ (w : List ℕ) (start end i n : ℕ) (h : start + i + n ≤ end) where
       sym (drop-take (i + n) (end - start) (drop start w) ∙ rw (drop-drop (i + n) start w, a, b))
 
 pub part-size : (w : List ℕ) (a b : ℕ) → a ≤ b → b ≤ length w → length (take (b - a) (drop a w)) ≡ b - a
-part-size w a b h k = length-take-le (b - a) (drop a w) (rw length-drop (omega arith))
+part-size w a b h k = part-length a (b - a) w (omega arith)

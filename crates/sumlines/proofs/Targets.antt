@@ -4,7 +4,7 @@ use mathlib.Core.List.{List, []}
 use Prim.Native.Nat.{ℕ, zero, suc, _<_}
 use lib.ListN.{getD}
 use Rattle.field.specs.Field.{Operations, Field, modular, fieldOf}
-use Rattle.words.specs.All.{All, done, _also_}
+use Rattle.lists.specs.All.{All, done, _also_}
 use Rattle.words.specs.Order.{Order, wordOrder}
 use Rattle.algebra.specs.Poly.{Poly, shift}
 use Rattle.algebra.specs.Ideal.{family}

@@ -8,7 +8,7 @@ ghost use mathlib.Core.Path.{_≡_};
 ghost use Prim.Native.Nat.{_+_, _≤_};
 ghost use lib.ListN.{length};
 ghost use Rattle.field.specs.Field.{Field, fieldOf};
-ghost use Rattle.words.specs.All.{All};
+ghost use Rattle.lists.specs.All.{All};
 ghost use Rattle.words.specs.Order.{wordOrder};
 ghost use Rattle.algebra.specs.Ideal.{family};
 ghost use Rattle.algebra.specs.Written.{Written};

@@ -10,6 +10,7 @@ use native.Mathlib.Omega.{arith}
 use lib.Dec.{eqb, ltb, leb}
 use lib.ListN.{length, take, drop, length-take, length-drop}
 use borrow.Author.Tests.{eq-eqb, ne-eqb, eqb-true, eqb-false, lt-ltb, ltb-true, ltb-false, le-leb, leb-true}
+use Rattle.lists.proofs.Parts.{part-length}
 use Rattle.field.specs.Field.{Operations}
 use Rattle.words.specs.Order.{Order}
 use Rattle.algebra.specs.Poly.{Poly}
@@ -18,6 +19,7 @@ use Rattle.text.specs.Bytes.{within, allWithin}
 use Rattle.text.proofs.Bytewise.{within-bounds}
 use Rattle.package.specs.declared.Head.{Head}
 use Rattle.package.specs.declared.Limits.{Limits}
+use Rattle.package.proofs.LineBounds.{coef-below}
 use Rattle.package.specs.Bounds.{coefFits, wordFits}
 use Rattle.package.specs.Package.{packageLimits}
 use Rattle.package.specs.Sums.{SumLine, sumItemFits, ofs, sumFits, sumFollows}
@@ -136,14 +138,6 @@ past-one k all-left e = one-past e all-left
 past-one k (one-past d p) e = one-past d (past-one k p e)
 
 -- A line in bounds can be taken away.
-coef-below : (p c : ℕ) → coefFits p c ≡ true → c < p
-unfolding coefFits
-coef-below p c = go (ltb 0 c)
-  where
-    go : (t : Bool) → _≡_ {A = Bool} (elim t [ false ↦ false | true ↦ ltb c p ]) true → c < p
-    go false h = absurd (false≢true h)
-    go true h = ltb-true c p h
-
 word-short : (most letters : ℕ) (w : List ℕ) → wordFits most letters w ≡ true → length w ≤ most
 unfolding wordFits
 word-short most letters w = go (ltb most (length w)) refl
@@ -174,17 +168,14 @@ fits-of h k i c l o r = go (sumItemFits h k i) (coefFits (h .p) c) (within 1 (of
         let n = within-bounds 1 (ofs h k) o y in
         record { below = coef-below (h .p) c x; some = n .0; most = n .1; lefts = word-short 24 (h .letters) l z; rights = word-short 24 (h .letters) r e }
 
-part-length : (bytes : List ℕ) (a n : ℕ) → a + n ≤ length bytes → length (take n (drop a bytes)) ≡ n
-part-length bytes a n h = simp (length-take, length-drop) (omega arith)
-
 pub line-fits : (h : Head) (k i n : ℕ) (bytes : List ℕ) (at : ℕ) (s : SumAt) → SumInOrder h packageLimits k i n (heldLine bytes n s) → Inside bytes at s
     → LineFits (h .p) bytes (ofs h (s .kind)) s
 line-fits h k i n bytes at s o q =
     let l = take (s .leftlen) (drop (s .left) bytes) in
     let r = take (s .rightlen) (drop (s .right) bytes) in
     let f = fits-of h (s .kind) (s .item) (s .coef) l (s .of) r (o .fits) in
-    let a = part-length bytes (s .left) (s .leftlen) (q .left-in) in
-    let b = part-length bytes (s .right) (s .rightlen) (q .right-in) in
+    let a = part-length (s .left) (s .leftlen) bytes (q .left-in) in
+    let b = part-length (s .right) (s .rightlen) bytes (q .right-in) in
     let u = f .lefts in
     let v = f .rights in
     record {

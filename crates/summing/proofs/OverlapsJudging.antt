@@ -21,7 +21,7 @@ use Rattle.algebra.specs.Steps.{takeAway}
 use Rattle.overlaps.specs.Overlaps.{Overlap, overlaps, overlapWord, difference}
 use Rattle.overlaps.specs.Position.{overlapsAt, overlapOf, behind}
 use Rattle.package.specs.declared.Head.{Head}
-use Rattle.package.specs.Bounds.{isBelow}
+use Rattle.words.specs.Below.{isBelow}
 use Rattle.package.specs.Sums.{SumLine}
 use Rattle.working.specs.Working.{terms, formula}
 use Rattle.acceptance.specs.Content.{sumOf, lineOf}

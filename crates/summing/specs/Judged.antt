@@ -5,7 +5,7 @@ use mathlib.Core.List.{List, [], _∷_}
 use Prim.Native.Nat.{ℕ, _+_, _≤_}
 use lib.ListN.{length}
 use Rattle.field.specs.Field.{Field, fieldOf}
-use Rattle.words.specs.All.{All}
+use Rattle.lists.specs.All.{All}
 use Rattle.words.specs.Order.{wordOrder}
 use Rattle.algebra.specs.Written.{Written}
 use Rattle.working.specs.Family.{familyAt, Terms, Runs}

@@ -1,7 +1,7 @@
 // The last word of a line: a newline ends it, so the line is read without a look for its end first.
 
+use lists::bytes::wide;
 use text::WordAt;
-use text::bytes::wide;
 ghost use mathlib.Core.Path.{_≡_};
 ghost use Prim.Native.Nat.{ℕ, _+_, _≤_, _<_};
 ghost use lib.Dec.{eqb};

@@ -14,7 +14,7 @@ use Rattle.package.specs.declared.Head.{Head}
 use Rattle.package.specs.declared.Last.{Last}
 use Rattle.package.specs.declared.Limits.{Limits}
 use Rattle.text.proofs.Cutting.{cut-more, cut-end}
-use Rattle.text.specs.Bytes.{same}
+use Rattle.lists.specs.Same.{same}
 use Rattle.text.specs.Pieces.{lines, stop, part}
 use Rattle.text.specs.Word.{word}
 

@@ -9,7 +9,8 @@ use lib.Dec.{ltb, eqb}
 use lib.ListN.{length, getD, drop, drop-of-length-le}
 use lib.Seq.{drop-cons}
 use borrow.Author.Tests.{lt-ltb, le-ltb, eq-eqb, ne-eqb, ltb-false, eqb-true}
-use Rattle.text.specs.Bytes.{same, within, allWithin}
+use Rattle.text.specs.Bytes.{within, allWithin}
+use Rattle.lists.specs.Same.{same}
 use Rattle.text.specs.Field.{rankFrom, rank}
 use Rattle.text.specs.declared.Num.the-variants.{Wrong, Value}
 
@@ -106,23 +107,6 @@ rank-one ks f e = rw (rank, eq-eqb (length f) 1 e)
 pub rank-many : (ks f : List ℕ) → (length f ≡ 1 → ⊥) → rank ks f ≡ Wrong
 unfolding rank
 rank-many ks f n = rw (rank, ne-eqb (length f) 1 n)
-
--- Lists that hold the same bytes are equal.
-pub same-equal : (a b : List ℕ) → same a b ≡ true → a ≡ b
-unfolding same
-same-equal [] [] h = refl
-same-equal [] (y ∷ b) h = absurd (false≢true h)
-same-equal (x ∷ a) [] h = absurd (false≢true h)
-same-equal (x ∷ a) (y ∷ b) h = go (eqb x y) refl h (same-equal a b)
-  where
-    go : (t : Bool) → eqb x y ≡ t → _≡_ {A = Bool} (elim t [ true ↦ same a b | false ↦ false ]) true → (same a b ≡ true → a ≡ b) → x ∷ a ≡ y ∷ b
-    go true e q ih = ap₂ _∷_ (eqb-true x y e) (ih q)
-    go false e q ih = absurd (false≢true q)
-
-pub same-self : (a : List ℕ) → same a a ≡ true
-unfolding same
-same-self [] = refl
-same-self (x ∷ a) = rw (same, eq-eqb x x refl) (same-self a)
 
 -- Wider bounds hold too.
 pub all-wider : (lo hi hi′ : ℕ) (w : List ℕ) → hi ≤ hi′ → allWithin lo hi w ≡ true → allWithin lo hi′ w ≡ true

@@ -71,18 +71,3 @@ module _ (b : ℕ) (l : List ℕ) (at e : ℕ) (h : e ≡ at + stop b (drop at l
 
   pub cut-end : length l ≤ e → pieces b (drop at l) ≡ final (drop at l)
   cut-end k = pieces-end b (drop at l) (rw (length-drop at l) (omega arith))
-
--- The part from a to a + n, and from a on.
-pub part-end : (s : List ℕ) (a n : ℕ) → take (a + n - a) (drop a s) ≡ part s a n
-part-end s a n = ap (λ m. take m (drop a s)) (add-sub-cancel-left a n)
-
-pub tail-part : (l : List ℕ) (at : ℕ) → take (length l - at) (drop at l) ≡ drop at l
-tail-part l at = take-all (length l - at) (drop at l) (rw (length-drop at l) (omega arith))
-
--- A part of a part.
-pub part-part : (l : List ℕ) (a n m : ℕ) → a + n ≤ m → take n (drop a (take m l)) ≡ take n (drop a l)
-part-part l zero n m h = take-take n m l (omega arith)
-part-part [] (suc a) n zero h = refl
-part-part [] (suc a) n (suc m) h = refl
-part-part (x ∷ l) (suc a) n zero h = absurd (omega arith)
-part-part (x ∷ l) (suc a) n (suc m) h = part-part l a n m (omega arith)

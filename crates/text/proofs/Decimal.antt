@@ -9,7 +9,7 @@ use lib.Dec.{ltb}
 use lib.ListN.{length, set, length-append}
 use lib.Seq.{sets}
 use borrow.Author.Tests.{lt-ltb, le-ltb, ltb-false}
-use Rattle.text.proofs.Stores.{sets-last}
+use Rattle.lists.proofs.Stores.{sets-last}
 use Rattle.text.specs.Number.{decimal, writeNumber}
 
 -- Any count of digits that suffices gives the same digits.

@@ -3,7 +3,6 @@ pub mod Bytewise
 pub mod Cutting
 pub mod Digits
 pub mod Decimal
-pub mod Stores
 -- What other crates cite: what was written is read back, and what reads is the writing of it.
 pub mod NumberTexts
 pub mod WordTexts

@@ -4,13 +4,6 @@ use mathlib.Core.List.{List, [], _∷_}
 use Prim.Native.Nat.{ℕ}
 use lib.Dec.{eqb, ltb}
 
--- Two lists hold the same bytes.
-unfoldable pub same : List ℕ → List ℕ → Bool
-same [] [] = true
-same [] (y ∷ ys) = false
-same (x ∷ xs) [] = false
-same (x ∷ xs) (y ∷ ys) = elim (eqb x y) [ true ↦ same xs ys | false ↦ false ]
-
 -- x is one of lo, .., hi.
 unfoldable pub within : ℕ → ℕ → ℕ → Bool
 within lo hi x = elim (ltb x lo) [ true ↦ false | false ↦ elim (ltb hi x) [ true ↦ false | false ↦ true ] ]

@@ -1,17 +1,12 @@
 // Slices of bytes: the first place of a byte, and tests that look at every byte.
 
+use lists::bytes::wide;
 ghost use mathlib.Core.Path.{_≡_};
 ghost use Prim.Native.Nat.{ℕ, _+_, _≤_};
 ghost use lib.ListN.{length, drop};
 ghost use Rattle.text.specs.Pieces.{stop};
-ghost use Rattle.text.specs.Bytes.{same, within, allWithin};
-
-// The byte as a number.
-pub fn wide(x: u8) -> u32
-    ensures { λ r. ⌜ r ≡ x ⌝ }
-{
-    x as u32
-}
+ghost use Rattle.text.specs.Bytes.{within, allWithin};
+ghost use Rattle.lists.specs.Same.{same};
 
 // The place of the first byte b of s from the place at on, or the length of s if there is none.
 pub fn find(s: &[u8], at: usize, b: u8) -> usize

@@ -1,4 +1,4 @@
--- Listing's answer, case by case: no room, room, and each of the refusals 8 and 9.
+-- Listing's answer, case by case: each of the refusals 8 and 9, and none.
 use mathlib.Core.Path.{_≡_, refl, sym, _∙_, ap}
 use mathlib.Core.List.{List}
 use Prim.Native.Nat.{ℕ, zero, suc, _≤_, _<_}
@@ -14,33 +14,10 @@ use Rattle.package.specs.Package.{Package, Outcome, refused, read, readPackage}
 use Rattle.acceptance.specs.Content.{basis}
 use Rattle.acceptance.specs.Check.{Verdict, refusal, fine, thenJudge, leadsJudged, apartJudged, basisJudged}
 use Rattle.sumlines.specs.Told.{told}
-use Rattle.vaultgarlic.specs.declared.Listed.{Listed}
-use Rattle.accepting.specs.Acceptance.{judgedBy}
-use Rattle.vaultgarlic.specs.Services.{listable, wordsListed, fitted, listAnswer, listOutput, listedAs, listedInto}
+use Rattle.services.proofs.Room.{refusedList}
+use Rattle.acceptance.specs.Acceptance.{judgedBy}
+use Rattle.services.specs.Services.{listable, wordsListed, fitted, listAnswer, listOutput, listedAs, listedInto}
 use Rattle.vaultgarlic.specs.ListingParts.{verdictListed, verdictOutput, basisListed, basisOutput}
-
--- A refusal of listing, as an answer.
-abbrev pub refusedList : ℕ → ℕ → Listed
-refusedList n k = record { number = n; place = k; overlaps = 0; written = 0 }
-
--- Too little room: 19 with the bytes required, and the slice as it was.
-pub no-room : (ws : List Word) (room : ℕ) → room < length (overlapText ws) → wordsListed room ws ≡ refusedList 19 (length (overlapText ws))
-unfolding wordsListed
-no-room ws room l = rw (wordsListed, lt-ltb room (length (overlapText ws)) l)
-
-pub no-room-kept : (text out : List ℕ) → length out < length text → fitted text out ≡ out
-unfolding fitted
-no-room-kept text out l = rw (fitted, lt-ltb (length out) (length text) l)
-
--- Room: the count and the bytes, and the text in the slice.
-pub room-listed : (ws : List Word) (room : ℕ) → length (overlapText ws) ≤ room
-    → wordsListed room ws ≡ record { number = 0; place = 0; overlaps = length (overlaps ws); written = length (overlapText ws) }
-unfolding wordsListed
-room-listed ws room l = rw (wordsListed, le-ltb room (length (overlapText ws)) l)
-
-pub room-written : (text out : List ℕ) → length text ≤ length out → fitted text out ≡ sets out 0 text
-unfolding fitted
-room-written text out l = rw (fitted, le-ltb (length out) (length text) l)
 
 told-place : (n r : ℕ) → (r ≡ 0 → ⊥) → told n r ≡ refusal n r
 unfolding told

@@ -10,14 +10,14 @@ use Rattle.package.specs.declared.Head.{Head}
 use Rattle.package.specs.Package.{Package, refused, read}
 use Rattle.package.specs.Writing.{writeFormula}
 use Rattle.overlaps.specs.Overlaps.{leads, overlaps}
-use Rattle.accepting.specs.Acceptance.{acceptance}
+use Rattle.acceptance.specs.Acceptance.{acceptance}
 use Rattle.accepting.specs.Slices.{PackageAccepted, overlapsIn}
-use Rattle.reducing.specs.Reduction.{Reduction, refusedBy, shortForm, reduction}
-use Rattle.vaultgarlic.specs.declared.Checked.{Checked}
-use Rattle.vaultgarlic.specs.declared.Shortened.{Shortened}
-use Rattle.vaultgarlic.specs.declared.Membership.{Membership}
+use Rattle.acceptance.specs.Reduction.{Reduction, refusedBy, shortForm, reduction}
+use Rattle.services.specs.declared.Checked.{Checked}
+use Rattle.services.specs.declared.Shortened.{Shortened}
+use Rattle.services.specs.declared.Membership.{Membership}
 use Rattle.vaultgarlic.specs.MemberNumber.{noneLeft}
-use Rattle.vaultgarlic.specs.Services.{checkAnswer, checkedAs, fitted, shortAnswer, shortenedAs, shortOutput, shortenedInto, memberAnswer, membershipAs}
+use Rattle.services.specs.Services.{checkAnswer, checkedAs, fitted, shortAnswer, shortenedAs, shortOutput, shortenedInto, memberAnswer, membershipAs}
 
 -- The check: a package that is refused, and one that is accepted.
 pub refused-checked : (bytes : List ℕ) (n k : ℕ) → acceptance bytes ≡ refused n k → record { number = n; place = k; overlaps = 0 } ≡ checkedAs bytes

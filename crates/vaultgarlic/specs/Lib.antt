@@ -1,5 +1,2 @@
-pub mod Services
 pub mod ListingParts
 pub mod MemberNumber
-pub mod Demands
-pub mod Examples

@@ -5,8 +5,8 @@ use Rattle.algebra.specs.Poly.{Poly}
 use Rattle.overlaps.specs.Overlaps.{leads}
 use Rattle.overlaps.specs.Listing.{overlapText}
 use Rattle.acceptance.specs.Check.{Verdict, refusal, fine, basisJudged}
-use Rattle.vaultgarlic.specs.declared.Listed.{Listed}
-use Rattle.vaultgarlic.specs.Services.{wordsListed, fitted}
+use Rattle.services.specs.declared.Listed.{Listed}
+use Rattle.services.specs.Services.{wordsListed, fitted}
 
 -- The answer for a verdict on the basis.
 unfoldable pub verdictListed : ℕ → List Poly → Verdict → Listed

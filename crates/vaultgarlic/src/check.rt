@@ -1,10 +1,10 @@
 // vg_check: whether a package is accepted, and its overlap count.
 
-use crate::Checked;
 use accepting::Accepting;
 use accepting::accept::accept;
+use services::Checked;
 ghost use mathlib.Core.Path.{_≡_};
-ghost use Rattle.vaultgarlic.specs.Services.{checkedAs};
+ghost use Rattle.services.specs.Services.{checkedAs};
 
 // Checks a package. Any bytes are taken.
 #[no_mangle]

@@ -1,10 +1,10 @@
 // vg_list_overlaps: the overlaps of a package's leading words, as the text of document 01.
 
-use crate::Listed;
 use listwriting::listing::measure;
 use listwriting::listing::write_list;
 use package::Reading;
 use reading::read::read_package;
+use services::Listed;
 use sumlines::holding::first_holding;
 use sumlines::leading::leading_words;
 ghost use mathlib.Core.Path.{_≡_};
@@ -14,7 +14,7 @@ ghost use Rattle.words.specs.Laid.{laidWords, Laid};
 ghost use Rattle.overlaps.specs.Position.{Short};
 ghost use Rattle.overlaps.specs.Listing.{overlapText};
 ghost use Rattle.working.specs.Family.{familyAt, Terms, Runs};
-ghost use Rattle.vaultgarlic.specs.Services.{wordsListed, fitted, listedAs, listedInto};
+ghost use Rattle.services.specs.Services.{wordsListed, fitted, listedAs, listedInto};
 ghost use Rattle.vaultgarlic.specs.ListingParts.{basisListed, basisOutput};
 
 fn refusal(number: u64, place: u64) -> Listed

@@ -1,10 +1,10 @@
 // vg_member: whether a formula is a sum over the package's relations.
 
-use crate::Membership;
 use reducing::Reduced;
 use reducing::reduce::reduce;
+use services::Membership;
 ghost use mathlib.Core.Path.{_≡_};
-ghost use Rattle.vaultgarlic.specs.Services.{membershipAs};
+ghost use Rattle.services.specs.Services.{membershipAs};
 ghost use Rattle.vaultgarlic.specs.MemberNumber.{noneLeft};
 
 // 1 where no term is left, else 0.

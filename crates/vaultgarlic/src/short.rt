@@ -1,17 +1,17 @@
 // vg_short_form: a formula's short form under a package, written as a formula.
 
-use crate::Shortened;
 use formwriting::writing::text_len;
 use formwriting::writing::write_text;
 use reducing::Reduced;
 use reducing::reduce::reduce;
+use services::Shortened;
 ghost use mathlib.Core.Path.{_≡_};
 ghost use Prim.Native.Nat.{_≤_};
 ghost use lib.ListN.{length};
 ghost use Rattle.working.specs.Working.{formula, Holds};
 ghost use Rattle.package.specs.Writing.{writeFormula};
-ghost use Rattle.reducing.specs.Reduction.{shortForm};
-ghost use Rattle.vaultgarlic.specs.Services.{shortAnswer, fitted, shortenedAs, shortenedInto};
+ghost use Rattle.acceptance.specs.Reduction.{shortForm};
+ghost use Rattle.services.specs.Services.{shortAnswer, fitted, shortenedAs, shortenedInto};
 
 fn refusal(number: u64, place: u64) -> Shortened
     ensures { λ r. ⌜ r ≡ record { number = number; place = place; steps = 0; written = 0 } ⌝ }

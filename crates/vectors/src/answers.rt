@@ -1,10 +1,10 @@
 // What a service answered, printed: its numbers in one line, and the bytes that it wrote.
 
 use libc::STDOUT_FILENO;
-use vaultgarlic::Checked;
-use vaultgarlic::Listed;
-use vaultgarlic::Membership;
-use vaultgarlic::Shortened;
+use services::Checked;
+use services::Listed;
+use services::Membership;
+use services::Shortened;
 ghost use mathlib.Core.Path.{_≡_};
 ghost use Prim.Native.Nat.{_≤_};
 ghost use lib.ListN.{drop};

@@ -1,9 +1,9 @@
 // The services, called on the bytes of a case.
 
-use vaultgarlic::Checked;
-use vaultgarlic::Listed;
-use vaultgarlic::Membership;
-use vaultgarlic::Shortened;
+use services::Checked;
+use services::Listed;
+use services::Membership;
+use services::Shortened;
 use vaultgarlic::check::vg_check;
 use vaultgarlic::list::vg_list_overlaps;
 use vaultgarlic::member::vg_member;
@@ -11,7 +11,7 @@ use vaultgarlic::short::vg_short_form;
 ghost use mathlib.Core.Path.{_≡_};
 ghost use Prim.Native.Nat.{_≤_};
 ghost use lib.ListN.{length};
-ghost use Rattle.vaultgarlic.specs.Services.{checkedAs, listedAs, shortenedAs, membershipAs};
+ghost use Rattle.services.specs.Services.{checkedAs, listedAs, shortenedAs, membershipAs};
 
 // The check of a package.
 pub fn check_of(package: &[u8]) -> Checked

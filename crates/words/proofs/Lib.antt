@@ -1,6 +1,5 @@
--- What other crates cite: properties of all elements, what follows of any admissible order, the orders that are admissible, and where words stand;
+-- What other crates cite: what follows of any admissible order, the orders that are admissible, and where words stand;
 -- and the laws that this crate's functions are proved by.
-pub mod Every
 pub mod Admissible
 pub mod Lexicographic
 pub mod WeightedOrder

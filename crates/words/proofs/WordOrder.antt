@@ -8,7 +8,7 @@ use native.Mathlib.Omega.{arith}
 use lib.ListN.{length, getD}
 use borrow.Author.Tests.{lt-ltb, le-ltb}
 use Rattle.words.specs.declared.Comparison.the-variants.{Below, Above}
-use Rattle.words.specs.All.{All, done, _also_}
+use Rattle.lists.specs.All.{All, done, _also_}
 use Rattle.words.specs.Word.{Word}
 use Rattle.words.specs.Order.{Lt, Admissible, FirstDiffers, IsBelow, letterRank, byLetters, wordOrder}
 use Rattle.words.specs.Weighted.{Proper, weight, weightedOrder, unitWeighing}

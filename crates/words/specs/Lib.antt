@@ -1,6 +1,6 @@
-pub mod All
 pub mod Word
 pub mod Order
+pub mod Below
 pub mod Weighted
 pub mod Block
 pub mod Place

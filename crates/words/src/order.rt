@@ -2,32 +2,27 @@
 // differing letter decides, and a is greater than b, b than c.
 
 use crate::Comparison;
+use lists::bytes::wide_u64;
 ghost use mathlib.Core.Path.{_≡_};
 ghost use Prim.Native.Nat.{_+_, _-_, _*_, _/_, _^_, _≤_, _<_};
 ghost use lib.ListN.{length, take, drop};
 ghost use Rattle.words.specs.Order.{byNumber, wordOrder};
+ghost use Rattle.words.specs.Below.{isBelow};
 ghost use Rattle.words.specs.Block.{blockAt};
-
-// A byte as a wider number.
-fn wide(a: u8) -> u64
-    ensures { λ r. ⌜ (r ≡ a) × (r < 256) ⌝ }
-{
-    a as u64
-}
 
 // Eight letters from place i on, as one number, the first as the highest byte. (Summed in halves, and not in a row, they are read from memory all at once.)
 fn block(u: &[u8], i: usize) -> u64
     requires { ⌜ i + 8 ≤ length (now u) ⌝ }
     ensures { λ r. ⌜ r ≡ blockAt (now (u .entry)) i ⌝ }
 {
-    let a = wide(u[i]);
-    let b = wide(u[i + 1]);
-    let c = wide(u[i + 2]);
-    let d = wide(u[i + 3]);
-    let e = wide(u[i + 4]);
-    let f = wide(u[i + 5]);
-    let g = wide(u[i + 6]);
-    let h = wide(u[i + 7]);
+    let a = wide_u64(u[i]);
+    let b = wide_u64(u[i + 1]);
+    let c = wide_u64(u[i + 2]);
+    let d = wide_u64(u[i + 3]);
+    let e = wide_u64(u[i + 4]);
+    let f = wide_u64(u[i + 5]);
+    let g = wide_u64(u[i + 6]);
+    let h = wide_u64(u[i + 7]);
     ((a * 72057594037927936 + b * 281474976710656) + (c * 1099511627776 + d * 4294967296))
         + ((e * 16777216 + f * 65536) + (g * 256 + h))
 }
@@ -106,4 +101,16 @@ pub fn compare(u: &[u8], v: &[u8]) -> Comparison
         i += 1;
     }
     Comparison::Equal
+}
+
+// Whether the word u is below v.
+pub fn is_below(u: &[u8], v: &[u8]) -> bool
+    ensures { λ r. ⌜ r ≡ isBelow (now (u .entry)) (now (v .entry)) ⌝ }
+{
+    let c = compare(u, v);
+    match c {
+        Comparison::Below => true,
+        Comparison::Equal => false,
+        Comparison::Above => false,
+    }
 }

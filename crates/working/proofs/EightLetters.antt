@@ -8,7 +8,8 @@ use native.Mathlib.Omega.{arith}
 use lib.ListN.{length, getD, set, take, drop, length-append}
 use lib.Seq.{sets, sets-eq, drop-cons, drop-drop, length-take-le, take-add, take-append-le, take-append-add, take-take}
 use Rattle.words.specs.Word.{Word, around}
-use Rattle.working.proofs.Parts.{part-length, sets-append}
+use Rattle.lists.proofs.Stores.{sets-append}
+use Rattle.lists.proofs.Parts.{part-length}
 
 -- the first of n + 1 letters, and the others
 sets-next : (d src : List ℕ) (at from n : ℕ) → from < length src
@@ -44,7 +45,7 @@ pub eight-more : (d src : List ℕ) (at from n : ℕ) → from + 8 ≤ length sr
     → sets (sets d at (take 8 (drop from src))) (at + 8) (take n (drop (from + 8) src)) ≡ sets d at (take (8 + n) (drop from src))
 eight-more d src at from n h =
     let e = part-length from 8 src h in
-    rw (take-add 8 n (drop from src), drop-drop 8 from src, sets-append d at (take 8 (drop from src)) (take n (drop (from + 8) src)), e)
+    rw (take-add 8 n (drop from src), drop-drop 8 from src, ← sets-append d at (take 8 (drop from src)) (take n (drop (from + 8) src)), e)
 
 -- 24 letters in three blocks
 pub three-stored : (d src : List ℕ) (at from : ℕ) → from + 24 ≤ length src

@@ -12,9 +12,6 @@ use lib.Seq.{sets, sets-eq, length-take-le, take-append-le, drop-append-le, drop
 pub cut : (a n : ℕ) → a + n - a ≡ n
 cut a n = omega arith
 
-pub part-length : (a n : ℕ) (w : List ℕ) → a + n ≤ length w → length (take n (drop a w)) ≡ n
-part-length a n w h = length-take-le n (drop a w) (rw length-drop (omega arith))
-
 -- a part that lies within x
 part-front : (n b : ℕ) (x y : List ℕ) → b + n ≤ length x → take n (drop b (x ++ y)) ≡ take n (drop b x)
 part-front n b x y h =
@@ -53,7 +50,3 @@ part-new w v a h =
     ap (λ (x : List ℕ). take (length v) (drop a x)) (sets-eq v w a h ∙ append-assoc (take a w) v (drop (a + length v) w))
     ∙ ap (take (length v)) (drop-at (take a w) (v ++ drop (a + length v) w) a n)
     ∙ take-at v (drop (a + length v) w) (length v) refl
-
-pub sets-append : (w : List ℕ) (i : ℕ) (a b : List ℕ) → sets w i (a ++ b) ≡ sets (sets w i a) (i + length a) b
-sets-append w i [] b = rw add-zero
-sets-append w i (x ∷ a) b = let e : suc i + length a ≡ i + suc (length a) = omega arith in sets-append (set w i x) (suc i) a b ∙ rw e

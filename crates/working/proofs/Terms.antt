@@ -6,7 +6,7 @@ use native.Mathlib.Numerals.{add-one}
 use native.Mathlib.Decide.{ℕ-discrete}
 use native.Mathlib.Omega.{arith}
 use lib.ListN.{length, getD}
-use Rattle.words.specs.All.{All, done, _also_}
+use Rattle.lists.specs.All.{All, done, _also_}
 use Rattle.algebra.specs.Poly.{Term, Poly}
 use Rattle.working.specs.Working.{terms}
 use Rattle.working.specs.Rotation.{rotatedRight, rotatedLeft}

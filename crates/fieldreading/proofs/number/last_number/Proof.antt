@@ -1,7 +1,7 @@
 -- `last_number` reads what `numLast` gives.
 use mathlib.Core.Path.{_∙_}
 use borrow.Author.Needs.{needs}
-use Rattle.text.proofs.Cutting.{tail-part}
+use Rattle.lists.proofs.Parts.{tail-part}
 use Rattle.fieldreading.proofs.FieldReading.{number-of-last}
 use Rattle.fieldreading.proofs.number.last_number.Statement.{statement}
 use Rattle.fieldreading.proofs.number.last_number.Tie as tie

@@ -3,7 +3,7 @@ use mathlib.Core.Path.{_∙_}
 use native.Mathlib.Omega.{arith}
 use lib.ListN.{length-drop}
 use borrow.Author.Needs.{needs}
-use Rattle.text.proofs.Cutting.{tail-part}
+use Rattle.lists.proofs.Parts.{tail-part}
 use Rattle.fieldreading.proofs.FieldReading.{word-of-last}
 use Rattle.fieldreading.proofs.word.last_word.Statement.{statement}
 use Rattle.fieldreading.proofs.word.last_word.Tie as tie

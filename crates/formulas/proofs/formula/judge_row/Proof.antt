@@ -6,7 +6,7 @@ use borrow.Author.Needs.{needs}
 use denote.Ref.{now}
 use Rattle.package.proofs.FormulaLines.{row-shapeless, row-refused, row-accepted, seen-no-row, seen-row, reach-row-part}
 use Rattle.package.specs.Held.{seenRow, reachRow}
-use Rattle.text.proofs.Cutting.{part-end}
+use Rattle.lists.proofs.Parts.{part-end}
 use Rattle.text.specs.Pieces.{part}
 use Rattle.formulas.proofs.formula.judge_row.Statement.{statement}
 use Rattle.formulas.proofs.formula.judge_row.Tie as tie

@@ -1,6 +1,6 @@
 -- `shared_at` is `sharedBy` of the two words, which lie inside the bytes.
 use native.Mathlib.Omega.{arith}
-use Rattle.overlaps.proofs.Positions.{part-end}
+use Rattle.lists.proofs.Parts.{part-end}
 use borrow.Author.Needs.{needs}
 use Rattle.overlaps.proofs.finding.shared_at.Statement.{statement}
 use Rattle.overlaps.proofs.finding.shared_at.Tie as tie

@@ -1,7 +1,8 @@
 -- `is_shared` is `shares`: the first letters of v stand at the end of u.
 use mathlib.Core.Path.{_∙_}
 use native.Mathlib.Omega.{arith}
-use Rattle.overlaps.proofs.Positions.{part-front, shares-stands}
+use Rattle.overlaps.proofs.Positions.{shares-stands}
+use Rattle.lists.proofs.Parts.{part-front}
 use borrow.Author.Needs.{needs}
 use Rattle.overlaps.proofs.shared.is_shared.Statement.{statement}
 use Rattle.overlaps.proofs.shared.is_shared.Tie as tie

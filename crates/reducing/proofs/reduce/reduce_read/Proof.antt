@@ -6,7 +6,7 @@ use lib.ListN.{length}
 use Rattle.leads.proofs.BlankTable.{blank-zeros}
 use Rattle.shortform.specs.Basis.{ShortWords}
 use Rattle.shortform.specs.Outcome.{seenRan, HeldAfter}
-use Rattle.reducing.specs.Reduction.{reductionOf}
+use Rattle.acceptance.specs.Reduction.{reductionOf}
 use Rattle.reducing.specs.Slices.{seenReduced, ShortHeld}
 use Rattle.reducing.proofs.Reductions.{ran-reduced}
 use borrow.Author.Needs.{needs}

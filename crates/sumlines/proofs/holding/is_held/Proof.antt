@@ -2,7 +2,7 @@ use borrow.Author.Needs.{needs}
 -- `is_held` says whether another word stands inside a word.
 use mathlib.Core.Path.{_≡_, sym, _∙_}
 use native.Mathlib.Omega.{arith}
-use Rattle.overlaps.proofs.Positions.{part-end}
+use Rattle.lists.proofs.Parts.{part-end}
 use Rattle.sumlines.proofs.HeldWords.{inside-self, inside-at, inside-nowhere}
 use Rattle.sumlines.proofs.holding.is_held.Statement.{statement}
 use Rattle.sumlines.proofs.holding.is_held.Tie as tie

@@ -6,7 +6,7 @@ use borrow.Author.Needs.{needs}
 use denote.Ref.{now}
 use Rattle.package.proofs.SumLines.{seen-shapeless, seen-sum, sum-inside}
 use Rattle.package.specs.Held.{seenSumJudged, JudgedInside}
-use Rattle.text.proofs.Cutting.{part-end}
+use Rattle.lists.proofs.Parts.{part-end}
 use Rattle.sumreading.proofs.SumTurns.{sums-none, sums-5, sums-6, sums-on}
 use Rattle.sumreading.proofs.sum_lines.judge_sum.Statement.{statement}
 use Rattle.sumreading.proofs.sum_lines.judge_sum.Tie as tie

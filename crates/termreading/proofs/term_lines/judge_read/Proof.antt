@@ -6,7 +6,7 @@ use borrow.Author.Needs.{needs}
 use denote.Ref.{now}
 use Rattle.package.proofs.TermJudging.{judge-5, judge-6, judge-7-item, judge-7-total, judge-0, counted-word}
 use Rattle.package.specs.Held.{seenJudged, reachJudged, aboveOf}
-use Rattle.text.proofs.Cutting.{part-end}
+use Rattle.lists.proofs.Parts.{part-end}
 use Rattle.termreading.proofs.term_lines.judge_read.Statement.{statement}
 use Rattle.termreading.proofs.term_lines.judge_read.Tie as tie
 

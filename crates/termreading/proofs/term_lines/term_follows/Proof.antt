@@ -2,7 +2,7 @@
 use borrow.Author.Tests.{eq-eqb, ne-eqb}
 use borrow.Author.Needs.{needs}
 use Rattle.package.specs.Terms.{follows}
-use Rattle.text.proofs.Cutting.{part-end}
+use Rattle.lists.proofs.Parts.{part-end}
 use Rattle.termreading.proofs.term_lines.term_follows.Statement.{statement}
 use Rattle.termreading.proofs.term_lines.term_follows.Tie as tie
 

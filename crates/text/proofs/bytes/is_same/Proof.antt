@@ -4,7 +4,7 @@ use Prim.Native.Nat.{_-_, _≤_}
 use lib.ListN.{length, drop}
 use borrow.Author.Needs.{needs}
 use Rattle.text.proofs.Bytewise.{same-here, same-not, same-end, same-lengths}
-use Rattle.text.specs.Bytes.{same}
+use Rattle.lists.specs.Same.{same}
 use Rattle.text.proofs.bytes.is_same.Statement.{statement}
 use Rattle.text.proofs.bytes.is_same.Tie as tie
 

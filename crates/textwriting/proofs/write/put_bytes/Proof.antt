@@ -4,7 +4,7 @@ use Prim.Native.Nat.{_+_, _-_, _≤_}
 use lib.ListN.{length, drop}
 use lib.Seq.{sets}
 use borrow.Author.Needs.{needs}
-use Rattle.text.proofs.Stores.{sets-more, sets-none}
+use Rattle.lists.proofs.Stores.{sets-more, sets-none}
 use Rattle.textwriting.proofs.write.put_bytes.Statement.{statement}
 use Rattle.textwriting.proofs.write.put_bytes.Tie as tie
 

@@ -5,8 +5,8 @@ use native.Mathlib.Omega.{arith}
 use lib.ListN.{length}
 use Rattle.words.specs.Laid.{laidWords}
 use Rattle.overlaps.specs.Listing.{overlapText}
-use Rattle.vaultgarlic.specs.declared.Listed.{Listed}
-use Rattle.vaultgarlic.proofs.ListingAnswers.{refusedList, no-room, no-room-kept, room-listed, room-written}
+use Rattle.services.specs.declared.Listed.{Listed}
+use Rattle.services.proofs.Room.{refusedList, no-room, no-room-kept, room-listed, room-written}
 use borrow.Author.Needs.{needs}
 use Rattle.vaultgarlic.proofs.list.list_words.Statement.{statement}
 use Rattle.vaultgarlic.proofs.list.list_words.Tie as tie

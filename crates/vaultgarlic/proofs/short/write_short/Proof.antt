@@ -5,7 +5,7 @@ use native.Mathlib.Omega.{arith}
 use lib.ListN.{length}
 use Rattle.working.specs.Working.{formula}
 use Rattle.package.specs.Writing.{writeFormula}
-use Rattle.vaultgarlic.proofs.ListingAnswers.{no-room-kept, room-written}
+use Rattle.services.proofs.Room.{no-room-kept, room-written}
 use Rattle.vaultgarlic.proofs.ServiceAnswers.{refusedShort, short-no-room, short-room}
 use borrow.Author.Needs.{needs}
 use Rattle.vaultgarlic.proofs.short.write_short.Statement.{statement}

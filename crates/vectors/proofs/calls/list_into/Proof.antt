@@ -1,7 +1,7 @@
 -- `list_into`: the part lent has room bytes.
 use mathlib.Core.Path.{_∙_, ap, sym}
 use Rattle.vectors.proofs.Parts.{part-length}
-use Rattle.vaultgarlic.specs.Services.{listedAs}
+use Rattle.services.specs.Services.{listedAs}
 use borrow.Author.Needs.{needs}
 use Rattle.vectors.proofs.calls.list_into.Statement.{statement}
 use Rattle.vectors.proofs.calls.list_into.Tie as tie

@@ -1,7 +1,7 @@
 -- `shorten_into`: the part lent has room bytes.
 use mathlib.Core.Path.{_∙_, ap, sym}
 use Rattle.vectors.proofs.Parts.{part-length}
-use Rattle.vaultgarlic.specs.Services.{shortenedAs}
+use Rattle.services.specs.Services.{shortenedAs}
 use borrow.Author.Needs.{needs}
 use Rattle.vectors.proofs.calls.shorten_into.Statement.{statement}
 use Rattle.vectors.proofs.calls.shorten_into.Tie as tie

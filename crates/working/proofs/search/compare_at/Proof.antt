@@ -8,7 +8,7 @@ use lib.Seq.{length-take-le}
 use Rattle.words.proofs.Turns.{order-shorter, order-longer}
 use Rattle.working.specs.Working.{wordAt}
 use Rattle.working.specs.Sorted.{Place}
-use Rattle.working.proofs.Parts.{part-length}
+use Rattle.lists.proofs.Parts.{part-length}
 use borrow.Author.Needs.{needs}
 use Rattle.working.proofs.search.compare_at.Statement.{statement}
 use Rattle.working.proofs.search.compare_at.Tie as tie

@@ -1,7 +1,7 @@
 -- Every row of the tables of examples (specs/Examples.antt) holds, by computation.
 use mathlib.Core.Path.{_≡_, refl}
 use lib.Dec.{lit<}
-use Rattle.words.specs.All.{All, done, _also_}
+use Rattle.lists.specs.All.{All, done, _also_}
 use Rattle.words.specs.Order.{wordOrder}
 use Rattle.text.specs.Number.{writeNumber}
 use Rattle.text.specs.Word.{wordOf, writeWord}
@@ -11,13 +11,13 @@ use Rattle.package.specs.Writing.{writeFormula}
 use Rattle.overlaps.specs.Overlaps.{leads, overlaps}
 use Rattle.overlaps.specs.Listing.{overlapText}
 use Rattle.acceptance.specs.Content.{basis}
-use Rattle.accepting.specs.Acceptance.{acceptance}
-use Rattle.reducing.specs.Reduction.{packageReduced}
-use Rattle.vaultgarlic.specs.Services.{listable, checkedAs}
-use Rattle.vaultgarlic.specs.Demands.{AcceptedAs}
-use Rattle.vaultgarlic.specs.Examples.{Keeps, Empties, Claim, examples, packageNone, packageOne, edges}
-use Rattle.vaultgarlic.proofs.TrivialBases.{none-keeps, one-empties}
-use Rattle.vaultgarlic.proofs.Rows.{shortens, is-member, refuses, lacks-room, is-above, lists, accepts}
+use Rattle.acceptance.specs.Acceptance.{acceptance}
+use Rattle.acceptance.specs.Reduction.{packageReduced}
+use Rattle.services.specs.Services.{listable, checkedAs}
+use Rattle.services.specs.Demands.{AcceptedAs}
+use Rattle.services.specs.Examples.{Keeps, Empties, Claim, examples, packageNone, packageOne, edges}
+use Rattle.services.proofs.TrivialBases.{none-keeps, one-empties}
+use Rattle.services.proofs.Rows.{shortens, is-member, refuses, lacks-room, is-above, lists, accepts}
 
 -- What the check and listing take each package for, computed once.
 acceptedE : (P : Package) × (acceptance packageE ≡ read P)

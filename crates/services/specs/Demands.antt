@@ -12,8 +12,8 @@ use Rattle.algebra.specs.Short.{Short}
 use Rattle.package.specs.Formula.{formula, readFormula}
 use Rattle.package.specs.Package.{Package, read, readPackage}
 use Rattle.acceptance.specs.Content.{relations, basis}
-use Rattle.reducing.specs.Reduction.{formulaLimits}
-use Rattle.vaultgarlic.specs.Services.{checkedAs, shortenedAs, shortenedInto}
+use Rattle.acceptance.specs.Reduction.{formulaLimits}
+use Rattle.services.specs.Services.{checkedAs, shortenedAs, shortenedInto}
 
 -- The bytes are read as the package P, and the check answers number 0.
 pub record AcceptedAs (bytes : List ℕ) (P : Package) : Type 0 where

@@ -8,8 +8,8 @@ use Rattle.algebra.specs.Steps.{Ended, answer, over, spent, run}
 use Rattle.package.specs.declared.Limits.{Limits}
 use Rattle.package.specs.Formula.{FormulaOutcome, wrongAt, formula, readFormula}
 use Rattle.package.specs.Package.{Package, Outcome, refused, read}
 use Rattle.acceptance.specs.Content.{basis}
-use Rattle.accepting.specs.Acceptance.{acceptance}
+use Rattle.acceptance.specs.Acceptance.{acceptance}
 
 -- A formula's bounds: 48 terms, words of 24 letters.
 abbrev pub formulaLimits : Limits

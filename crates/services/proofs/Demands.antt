@@ -8,7 +8,7 @@ use native.Mathlib.Omega.{arith}
 use lib.Dec.{ltb}
 use lib.ListN.{length, getD}
 use Rattle.field.specs.Field.{fieldOf}
-use Rattle.words.specs.All.{All, done, _also_}
+use Rattle.lists.specs.All.{All, done, _also_}
 use Rattle.words.specs.Word.{Letter}
 use Rattle.words.specs.Order.{wordOrder}
 use Rattle.words.proofs.WordOrder.{word-order-admissible}
@@ -30,11 +30,11 @@ use Rattle.acceptance.specs.Facts.{Acceptable}
 use Rattle.acceptance.proofs.ReadableContent.{readable-field, basis-letters}
 use Rattle.acceptance.proofs.Packages.{accepted-iff-facts, package-accepted}
 use Rattle.acceptance.proofs.FormulaContent.{formula-content, text-unique}
-use Rattle.accepting.specs.Acceptance.{judgedBy, acceptance}
-use Rattle.reducing.specs.Reduction.{Reduction, refusedBy, shortForm, reduction, formulaLimits}
-use Rattle.vaultgarlic.specs.Services.{listable, checkAnswer, checkedAs, fitted, listAnswer, listedAs, listOutput, listedInto, wordsListed, shortAnswer, shortenedAs, shortOutput, shortenedInto, memberAnswer, membershipAs}
-use Rattle.vaultgarlic.specs.Demands.{AcceptedAs, ReadAs, Answered, writtenBytes, RelationSum, EqualModulo, ShortFormOf}
-use Rattle.vaultgarlic.proofs.Answers.{accepted-is, answered-fine, short-answered, member-answered, reduced-is, written-is}
+use Rattle.acceptance.specs.Acceptance.{judgedBy, acceptance}
+use Rattle.acceptance.specs.Reduction.{Reduction, refusedBy, shortForm, reduction, formulaLimits}
+use Rattle.services.specs.Services.{listable, checkAnswer, checkedAs, fitted, listAnswer, listedAs, listOutput, listedInto, wordsListed, shortAnswer, shortenedAs, shortOutput, shortenedInto, memberAnswer, membershipAs}
+use Rattle.services.specs.Demands.{AcceptedAs, ReadAs, Answered, writtenBytes, RelationSum, EqualModulo, ShortFormOf}
+use Rattle.services.proofs.Answers.{accepted-is, answered-fine, short-answered, member-answered, reduced-is, written-is}
 
 -- The letters of one polynomial of a family, where all its polynomials are in the letters.
 member-letters : (L : ℕ → Type 0) (ps : List Poly) → All (InLetters L) ps → (i : ℕ) → InLetters L (getD ps i [])

@@ -23,7 +23,8 @@ use Rattle.algebra.specs.Groebner.{lead}
 use Rattle.algebra.specs.Spot.{firstBegins, nowhere, found, spotAt, spotFrom, spot, Target, reduced, reducible, targetOf, target}
 use Rattle.algebra.specs.Steps.{takeAway, lineAt, stepped, Ended, answer, over, spent, onward, run}
 use Rattle.package.specs.declared.Limits.{Limits}
-use Rattle.package.specs.Bounds.{coefFits, wordFits, isBelow}
+use Rattle.package.specs.Bounds.{coefFits, wordFits}
+use Rattle.words.specs.Below.{isBelow}
 use Rattle.package.specs.Formula.{rowFits, formula, readFormula}
 use Rattle.package.specs.Package.{Package, read}
 use Rattle.package.specs.Readable.{RowsInOrder, noRows, rowThen}
@@ -33,12 +34,12 @@ use Rattle.package.proofs.PackageTexts.{reads-written}
 use Rattle.acceptance.specs.Content.{basis}
 use Rattle.acceptance.proofs.LineFacts.{both}
 use Rattle.acceptance.proofs.ReadableContent.{readable-field}
-use Rattle.accepting.specs.Acceptance.{acceptance}
-use Rattle.reducing.specs.Reduction.{formulaLimits, shortForm, reductionOf, formulaReduced, packageReduced}
-use Rattle.vaultgarlic.specs.Demands.{AcceptedAs, ReadAs}
-use Rattle.vaultgarlic.specs.Examples.{Shortens}
-use Rattle.vaultgarlic.proofs.Answers.{accepted-is, answered-fine}
-use Rattle.vaultgarlic.proofs.Rows.{shortens}
+use Rattle.acceptance.specs.Acceptance.{acceptance}
+use Rattle.acceptance.specs.Reduction.{formulaLimits, shortForm, reductionOf, formulaReduced, packageReduced}
+use Rattle.services.specs.Demands.{AcceptedAs, ReadAs}
+use Rattle.services.specs.Examples.{Shortens}
+use Rattle.services.proofs.Answers.{accepted-is, answered-fine}
+use Rattle.services.proofs.Rows.{shortens}
 
 -- No leading word stands in a word, so nothing is reducible.
 spot-none : (w : Word) (i : ℕ) → spotFrom [] w i ≡ nowhere

@@ -13,12 +13,12 @@ use Rattle.overlaps.specs.Overlaps.{leads, overlaps}
 use Rattle.overlaps.specs.Listing.{overlapText}
 use Rattle.acceptance.specs.Content.{basis}
 use Rattle.acceptance.specs.Check.{basisJudged}
-use Rattle.accepting.specs.Acceptance.{judgedBy, acceptance}
-use Rattle.reducing.specs.Reduction.{Reduction, refusedBy, shortForm, reduction}
-use Rattle.vaultgarlic.specs.declared.Checked.{Checked}
-use Rattle.vaultgarlic.specs.declared.Listed.{Listed}
-use Rattle.vaultgarlic.specs.declared.Shortened.{Shortened}
-use Rattle.vaultgarlic.specs.declared.Membership.{Membership}
+use Rattle.acceptance.specs.Acceptance.{judgedBy, acceptance}
+use Rattle.acceptance.specs.Reduction.{Reduction, refusedBy, shortForm, reduction}
+use Rattle.services.specs.declared.Checked.{Checked}
+use Rattle.services.specs.declared.Listed.{Listed}
+use Rattle.services.specs.declared.Shortened.{Shortened}
+use Rattle.services.specs.declared.Membership.{Membership}
 
 -- Listing judges refusals 1 to 9 and 19 only.
 unfoldable pub listable : List ℕ → Outcome

@@ -17,11 +17,11 @@ use Rattle.package.specs.Package.{Package, Outcome, refused, read, readPackage}
 use Rattle.package.specs.Writing.{writeFormula}
 use Rattle.acceptance.specs.Content.{basis}
 use Rattle.acceptance.specs.Check.{Verdict, refusal, fine, checked}
-use Rattle.accepting.specs.Acceptance.{judgedBy, acceptance}
-use Rattle.reducing.specs.Reduction.{formulaLimits, Reduction, refusedBy, shortForm, reductionOf, formulaReduced, packageReduced, reduction}
-use Rattle.vaultgarlic.specs.Services.{checkAnswer, checkedAs, fitted, shortAnswer, shortenedAs, shortOutput, shortenedInto, memberAnswer, membershipAs}
-use Rattle.vaultgarlic.proofs.RefusalNumbers.{Numbered, read-number}
-use Rattle.vaultgarlic.proofs.VerdictNumbers.{Judged, check-number}
+use Rattle.acceptance.specs.Acceptance.{judgedBy, acceptance}
+use Rattle.acceptance.specs.Reduction.{formulaLimits, Reduction, refusedBy, shortForm, reductionOf, formulaReduced, packageReduced, reduction}
+use Rattle.services.specs.Services.{checkAnswer, checkedAs, fitted, shortAnswer, shortenedAs, shortOutput, shortenedInto, memberAnswer, membershipAs}
+use Rattle.services.proofs.RefusalNumbers.{Numbered, read-number}
+use Rattle.services.proofs.VerdictNumbers.{Judged, check-number}
 
 -- Bytes written from the start are the first ones.
 stored : (w v : List ℕ) → length v ≤ length w → take (length v) (sets w 0 v) ≡ v

@@ -1,8 +1,8 @@
 -- `is_below` is `isBelow`: what the comparison says.
 use borrow.Author.Needs.{needs}
-use Rattle.package.specs.Bounds.{isBelow}
-use Rattle.linetests.proofs.bounds.is_below.Statement.{statement}
-use Rattle.linetests.proofs.bounds.is_below.Tie as tie
+use Rattle.words.specs.Below.{isBelow}
+use Rattle.words.proofs.order.is_below.Statement.{statement}
+use Rattle.words.proofs.order.is_below.Tie as tie
 
 compare-requires : tie.Need-compare-requires
 compare-requires c κs = search needs

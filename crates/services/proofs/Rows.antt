@@ -20,12 +20,12 @@ use Rattle.package.specs.Writing.{writeFormula}
 use Rattle.overlaps.specs.Overlaps.{leads, overlaps}
 use Rattle.overlaps.specs.Listing.{overlapText}
 use Rattle.acceptance.specs.Content.{basis}
-use Rattle.accepting.specs.Acceptance.{acceptance}
-use Rattle.reducing.specs.Reduction.{formulaLimits, Reduction, refusedBy, shortForm, reductionOf, formulaReduced, packageReduced, reduction}
-use Rattle.vaultgarlic.specs.Services.{listable, checkAnswer, checkedAs, fitted, listAnswer, listedAs, listOutput, listedInto, shortAnswer, shortenedAs, shortOutput, shortenedInto, memberAnswer, membershipAs}
-use Rattle.vaultgarlic.specs.Examples.{atStart, refusal, Shortens, IsAbove, Lists, Accepts, IsMember, Refuses}
-use Rattle.vaultgarlic.proofs.Budgets.{run-more, run-fewer}
-use Rattle.vaultgarlic.proofs.ListingAnswers.{no-room, no-room-kept, room-listed, room-written}
+use Rattle.acceptance.specs.Acceptance.{acceptance}
+use Rattle.acceptance.specs.Reduction.{formulaLimits, Reduction, refusedBy, shortForm, reductionOf, formulaReduced, packageReduced, reduction}
+use Rattle.services.specs.Services.{listable, checkAnswer, checkedAs, fitted, listAnswer, listedAs, listOutput, listedInto, shortAnswer, shortenedAs, shortOutput, shortenedInto, memberAnswer, membershipAs}
+use Rattle.services.specs.Examples.{atStart, refusal, Shortens, IsAbove, Lists, Accepts, IsMember, Refuses}
+use Rattle.services.proofs.Budgets.{run-more, run-fewer}
+use Rattle.services.proofs.Room.{no-room, no-room-kept, room-listed, room-written}
 
 -- Bytes that fit stand at the slice's start.
 fitted-start : (text out : List ℕ) → length text ≤ length out → fitted text out ≡ atStart text out

@@ -11,10 +11,10 @@ use Rattle.package.proofs.PackageTexts.{reads-iff}
 use Rattle.acceptance.specs.Check.{checked, fine}
 use Rattle.acceptance.specs.Facts.{Acceptable}
 use Rattle.acceptance.proofs.Packages.{accepted-iff-facts}
-use Rattle.accepting.specs.Acceptance.{judgedBy, acceptance}
-use Rattle.vaultgarlic.specs.Services.{checkAnswer, checkedAs}
-use Rattle.vaultgarlic.proofs.RefusalNumbers.{Numbered, read-number}
-use Rattle.vaultgarlic.proofs.Answers.{accepted-is, answered-fine}
+use Rattle.acceptance.specs.Acceptance.{judgedBy, acceptance}
+use Rattle.services.specs.Services.{checkAnswer, checkedAs}
+use Rattle.services.proofs.RefusalNumbers.{Numbered, read-number}
+use Rattle.services.proofs.Answers.{accepted-is, answered-fine}
 
 -- The bytes are the text of a readable package of which the facts hold.
 abbrev pub Holds : List ℕ → Type 0

@@ -11,9 +11,9 @@ use Rattle.overlaps.specs.Listing.{overlapText}
 use Rattle.package.specs.Package.{Package, Outcome, refused, read}
 use Rattle.package.specs.Writing.{writeFormula}
 use Rattle.acceptance.specs.Content.{basis}
-use Rattle.accepting.specs.Acceptance.{acceptance}
-use Rattle.reducing.specs.Reduction.{Reduction, refusedBy, shortForm, reduction}
-use Rattle.vaultgarlic.specs.Services.{listable, checkAnswer, checkedAs, fitted, wordsListed, listAnswer, listedAs, listOutput, listedInto, shortAnswer, shortenedAs, shortOutput, shortenedInto, memberAnswer, membershipAs}
+use Rattle.acceptance.specs.Acceptance.{acceptance}
+use Rattle.acceptance.specs.Reduction.{Reduction, refusedBy, shortForm, reduction}
+use Rattle.services.specs.Services.{listable, checkAnswer, checkedAs, fitted, wordsListed, listAnswer, listedAs, listOutput, listedInto, shortAnswer, shortenedAs, shortOutput, shortenedInto, memberAnswer, membershipAs}
 
 pub refused-check : (bytes : List ℕ) → (checkedAs bytes .number ≡ 0 → ⊥) → checkedAs bytes .overlaps ≡ 0
 unfolding checkedAs checkAnswer

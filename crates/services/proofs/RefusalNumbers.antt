@@ -17,7 +17,7 @@ use Rattle.algebra.specs.Ideal.{Family, family}
 use Rattle.algebra.specs.Groebner.{top}
 use Rattle.algebra.specs.Steps.{takeAway}
 use Rattle.overlaps.specs.Overlaps.{Overlap, leads, overlaps, overlapWord, difference}
-use Rattle.text.specs.Bytes.{same}
+use Rattle.lists.specs.Same.{same}
 use Rattle.text.specs.Pieces.{Pieces, final, piece, lines, fields}
 use Rattle.package.specs.declared.Head.{Head}
 use Rattle.package.specs.declared.Limits.{Limits}

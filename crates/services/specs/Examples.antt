@@ -13,9 +13,9 @@ use Rattle.text.specs.Ascii.{ascii}
 use Rattle.text.specs.Word.{word, wordOf}
 use Rattle.package.specs.Package.{Package}
 use Rattle.package.specs.Examples.{text, packageE}
-use Rattle.vaultgarlic.specs.declared.Shortened.{Shortened}
-use Rattle.vaultgarlic.specs.Services.{checkedAs, listedAs, listedInto, shortenedAs, shortenedInto, membershipAs}
-use Rattle.vaultgarlic.specs.Demands.{AcceptedAs, ReadAs}
+use Rattle.services.specs.declared.Shortened.{Shortened}
+use Rattle.services.specs.Services.{checkedAs, listedAs, listedInto, shortenedAs, shortenedInto, membershipAs}
+use Rattle.services.specs.Demands.{AcceptedAs, ReadAs}
 
 -- A row: the bytes of a package, and texts quoted byte for byte.
 pub data Row : Type 0 where

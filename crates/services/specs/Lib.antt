@@ -1,0 +1,3 @@
+pub mod Services
+pub mod Demands
+pub mod Examples
