@@ -14,3 +14,4 @@ pub mod LowestNumber
 pub mod Spots
 pub mod RuleOfSteps
 pub mod Running
+pub mod OneSequence
