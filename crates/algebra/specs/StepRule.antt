@@ -1,6 +1,7 @@
--- The rule of steps in document 01's words ('Steps'): 'a step takes the greatest word that has a leading word inside, at the leftmost place'; and in
--- document 02's (P2): 'of two polynomials that match at one place, a step takes the lower number'. Nothing here says how such a step is found:
--- `target` of Spot.antt computes it, and `target-iff` and `target-none-iff` of proofs/RuleOfSteps.antt say that it gives exactly what stands here.
+-- The rule of steps in document 01's words ('Steps'): a step takes the greatest word that has a leading word inside, at the leftmost place. Where the
+-- leading words of several polynomials stand at that place, it takes the lowest number (document 02, P2; under document 01 there is only one).
+-- Nothing here says how such a step is found: `target` of Spot.antt computes it, and `target-iff` and `target-none-iff` of proofs/RuleOfSteps.antt
+-- say that it gives exactly what stands here.
 use mathlib.Core.Logic.{_≢_}
 use mathlib.Core.List.{List, [], List·Memᴰ}
 use Prim.Native.Nat.{ℕ, _<_}
