@@ -1,6 +1,6 @@
 // is_member: whether a formula is a sum over the package's relations.
 
-use reducing::Reduced;
+use reduceread::Reduced;
 use reducing::reduce::reduce;
 use services::Membership;
 ghost use mathlib.Core.Path.{_≡_};

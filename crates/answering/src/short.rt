@@ -1,6 +1,6 @@
 // The short form service: a formula's short form under a package, written as a formula.
 
-use reducing::Reduced;
+use reduceread::Reduced;
 use reducing::reduce::reduce;
 use services::Shortened;
 use shortwriting::short::refusal;

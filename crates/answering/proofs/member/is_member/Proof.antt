@@ -1,7 +1,7 @@
 -- `is_member` answers as membership is defined.
 use mathlib.Core.Path.{_≡_}
 use Rattle.working.proofs.Terms.{terms-length}
-use Rattle.reducing.specs.Slices.{seenReduced, ShortHeld}
+use Rattle.reduceread.specs.Slices.{seenReduced, ShortHeld}
 use Rattle.answering.proofs.ServiceAnswers.{refused-member, short-member}
 use borrow.Author.Needs.{needs}
 use Rattle.answering.proofs.member.is_member.Statement.{statement}

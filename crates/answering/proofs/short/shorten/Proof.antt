@@ -1,6 +1,6 @@
 -- `shorten` answers, and leaves in the output slice, what the short form service is defined to.
 use mathlib.Core.Path.{_≡_, _∙_}
-use Rattle.reducing.specs.Slices.{seenReduced, ShortHeld}
+use Rattle.reduceread.specs.Slices.{seenReduced, ShortHeld}
 use Rattle.answering.proofs.ServiceAnswers.{refused-shortened, refused-kept, short-shortened, short-written}
 use borrow.Author.Needs.{needs}
 use Rattle.answering.proofs.short.shorten.Statement.{statement}

@@ -11,8 +11,8 @@ use Rattle.working.specs.Polynomial.{polyAt, Given}
 use Rattle.package.specs.declared.Head.{Head}
 use Rattle.package.specs.Formula.{formula, readFormula}
 use Rattle.shortform.specs.Basis.{ShortWords}
-use Rattle.reducing.specs.declared.Reduced.{Reduced}
-use Rattle.reducing.specs.declared.Reduced.the-variants.{Refused, Short}
+use Rattle.reduceread.specs.declared.Reduced.{Reduced}
+use Rattle.reduceread.specs.declared.Reduced.the-variants.{Refused, Short}
 use Rattle.acceptance.specs.Reduction.{formulaLimits, Reduction, refusedBy, shortForm}
 
 -- The formula's bytes are read as the polynomial that lies in the slices, of at most 48 terms.

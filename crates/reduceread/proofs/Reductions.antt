@@ -20,7 +20,7 @@ use Rattle.checking.specs.Answer.{basisIn}
 use Rattle.acceptance.specs.Acceptance.{acceptance}
 use Rattle.accepting.specs.Slices.{PackageAccepted}
 use Rattle.acceptance.specs.Reduction.{formulaLimits, Reduction, refusedBy, reductionOf, formulaReduced, packageReduced, reduction}
-use Rattle.reducing.specs.Slices.{FormulaRead}
+use Rattle.reduceread.specs.Slices.{FormulaRead}
 
 -- A package that is refused.
 pub turned-refused : (bytes text : List ℕ) (budget n k : ℕ) → acceptance bytes ≡ refused n k → reduction bytes text budget ≡ refusedBy n k

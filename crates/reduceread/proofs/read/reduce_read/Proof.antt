@@ -7,16 +7,16 @@ use Rattle.leads.proofs.BlankTable.{blank-zeros}
 use Rattle.shortform.specs.Basis.{ShortWords}
 use Rattle.shortform.specs.Outcome.{seenRan, HeldAfter}
 use Rattle.acceptance.specs.Reduction.{reductionOf}
-use Rattle.reducing.specs.Slices.{seenReduced, ShortHeld}
-use Rattle.reducing.proofs.Reductions.{ran-reduced}
+use Rattle.reduceread.specs.Slices.{seenReduced, ShortHeld}
+use Rattle.reduceread.proofs.Reductions.{ran-reduced}
 use borrow.Author.Needs.{needs}
-use Rattle.reducing.proofs.reduce.reduce_read.Statement.{statement}
-use Rattle.reducing.proofs.reduce.reduce_read.Tie as tie
-use Rattle.reducing.proofs.reduce.reduce_read.Reads as reads
-use Rattle.reducing.proofs.reduce.reduce_read.Lts as lts
+use Rattle.reduceread.proofs.read.reduce_read.Statement.{statement}
+use Rattle.reduceread.proofs.read.reduce_read.Tie as tie
+use Rattle.reduceread.proofs.read.reduce_read.Reads as reads
+use Rattle.reduceread.proofs.read.reduce_read.Lts as lts
 use Rattle.shortform.proofs.loading.load.Reads as load-reads
 use Rattle.running.proofs.running.run.Reads as run-reads
-use Rattle.reducing.proofs.reduce.index_leads.Reads as index-leads-reads
+use Rattle.reduceread.proofs.read.index_leads.Reads as index-leads-reads
 
 slice-aggregate-index-leads : tie.Need-slice-aggregate-index-leads
 slice-aggregate-index-leads c = search needs

@@ -4,12 +4,12 @@ use mathlib.Core.List.{List}
 use Rattle.words.specs.Word.{Word}
 use Rattle.leads.specs.Index.{Indexable, Indexed}
 use Rattle.overlaps.specs.Overlaps.{leads}
-use Rattle.reducing.proofs.BasisLeads.{basis-indexable, leads-of, none-wrong}
+use Rattle.reduceread.proofs.BasisLeads.{basis-indexable, leads-of, none-wrong}
 use borrow.Author.Needs.{needs}
-use Rattle.reducing.proofs.reduce.index_leads.Statement.{statement}
-use Rattle.reducing.proofs.reduce.index_leads.Tie as tie
-use Rattle.reducing.proofs.reduce.index_leads.Reads as reads
-use Rattle.reducing.proofs.reduce.index_leads.Lts as lts
+use Rattle.reduceread.proofs.read.index_leads.Statement.{statement}
+use Rattle.reduceread.proofs.read.index_leads.Tie as tie
+use Rattle.reduceread.proofs.read.index_leads.Reads as reads
+use Rattle.reduceread.proofs.read.index_leads.Lts as lts
 use Rattle.leads.proofs.filling.fill.Reads as fill-reads
 use Rattle.sumlines.proofs.leading.leading_words.Reads as leading-words-reads
 
