@@ -6,10 +6,14 @@ use lib.ListN.{length}
 use lib.Seq.{sets}
 use borrow.Author.Tests.{lt-ltb, le-ltb}
 use Rattle.words.specs.Word.{Word}
+use Rattle.algebra.specs.Poly.{Poly}
+use Rattle.package.specs.Writing.{writeFormula}
 use Rattle.overlaps.specs.Overlaps.{overlaps}
 use Rattle.overlaps.specs.Listing.{overlapText}
+use Rattle.acceptance.specs.Reduction.{shortForm}
 use Rattle.services.specs.declared.Listed.{Listed}
-use Rattle.services.specs.Services.{wordsListed, fitted}
+use Rattle.services.specs.declared.Shortened.{Shortened}
+use Rattle.services.specs.Services.{wordsListed, fitted, shortAnswer}
 
 -- A refusal of listing, as an answer.
 abbrev pub refusedList : ℕ → ℕ → Listed
@@ -33,3 +37,17 @@ room-listed ws room l = rw (wordsListed, le-ltb room (length (overlapText ws)) l
 pub room-written : (text out : List ℕ) → length text ≤ length out → fitted text out ≡ sets out 0 text
 unfolding fitted
 room-written text out l = rw (fitted, le-ltb (length out) (length text) l)
+
+-- Short form: a refusal as an answer, too little room, and room.
+abbrev pub refusedShort : ℕ → ℕ → Shortened
+refusedShort n k = record { number = n; place = k; steps = 0; written = 0 }
+
+pub short-no-room : (N : Poly) (steps room : ℕ) → room < length (writeFormula N)
+    → shortAnswer room (shortForm N steps) ≡ record { number = 19; place = length (writeFormula N); steps = 0; written = 0 }
+unfolding shortAnswer
+short-no-room N steps room l = rw (shortAnswer, lt-ltb room (length (writeFormula N)) l)
+
+pub short-room : (N : Poly) (steps room : ℕ) → length (writeFormula N) ≤ room
+    → shortAnswer room (shortForm N steps) ≡ record { number = 0; place = 0; steps = steps; written = length (writeFormula N) }
+unfolding shortAnswer
+short-room N steps room l = rw (shortAnswer, le-ltb room (length (writeFormula N)) l)

@@ -3,8 +3,8 @@ use mathlib.Core.Path.{_≡_, sym}
 use Prim.Native.Nat.{ℕ, _≤_}
 use native.Mathlib.Omega.{arith}
 use Rattle.accepting.specs.Slices.{Accepts}
-use Rattle.reducing.specs.Slices.{seenReduced, ShortHeld}
-use Rattle.reducing.proofs.Reductions.{turned-refused}
+use Rattle.reduceread.specs.Slices.{seenReduced, ShortHeld}
+use Rattle.reduceread.proofs.Reductions.{turned-refused}
 use borrow.Author.Needs.{needs}
 use Rattle.reducing.proofs.reduce.reduce.Statement.{statement}
 use Rattle.reducing.proofs.reduce.reduce.Tie as tie

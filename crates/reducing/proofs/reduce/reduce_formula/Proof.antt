@@ -4,15 +4,15 @@ use Prim.Native.Nat.{ℕ, _≤_}
 use native.Mathlib.Omega.{arith}
 use lib.ListN.{length}
 use Rattle.package.specs.Held.{seenFormula, countFormula}
-use Rattle.reducing.specs.Slices.{seenReduced, ShortHeld}
-use Rattle.reducing.proofs.Reductions.{accepted-letters, formula-lies, wrong-refused}
+use Rattle.reduceread.specs.Slices.{seenReduced, ShortHeld}
+use Rattle.reduceread.proofs.Reductions.{accepted-letters, formula-lies, wrong-refused}
 use borrow.Author.Needs.{needs}
 use Rattle.reducing.proofs.reduce.reduce_formula.Statement.{statement}
 use Rattle.reducing.proofs.reduce.reduce_formula.Tie as tie
 use Rattle.reducing.proofs.reduce.reduce_formula.Reads as reads
 use Rattle.reducing.proofs.reduce.reduce_formula.Lts as lts
 use Rattle.formulas.proofs.formula.read_formula.Reads as read-formula-reads
-use Rattle.reducing.proofs.reduce.reduce_read.Reads as reduce-read-reads
+use Rattle.reduceread.proofs.read.reduce_read.Reads as reduce-read-reads
 
 slice-aggregate-read-formula : tie.Need-slice-aggregate-read-formula
 slice-aggregate-read-formula c = search needs

@@ -1,0 +1,2 @@
+-- What the three services are proved by.
+mod ServiceAnswers

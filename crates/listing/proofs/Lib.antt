@@ -1,0 +1,2 @@
+-- What listing is proved by.
+mod ListingAnswers

@@ -1,0 +1,135 @@
+// list_package: the overlaps of a package's leading words, as the text of document 01.
+
+use listwriting::listing::measure;
+use listwriting::listing::write_list;
+use package::Reading;
+use reading::read::read_package;
+use services::Listed;
+use sumlines::holding::first_holding;
+use sumlines::leading::leading_words;
+ghost use mathlib.Core.Path.{_≡_};
+ghost use Prim.Native.Nat.{_+_, _≤_, _<_};
+ghost use lib.ListN.{length};
+ghost use Rattle.words.specs.Laid.{laidWords, Laid};
+ghost use Rattle.overlaps.specs.Position.{Short};
+ghost use Rattle.overlaps.specs.Listing.{overlapText};
+ghost use Rattle.working.specs.Family.{familyAt, Terms, Runs};
+ghost use Rattle.services.specs.Services.{wordsListed, fitted, listedAs, listedInto};
+ghost use Rattle.listing.specs.ListingParts.{basisListed, basisOutput};
+
+fn refusal(number: u64, place: u64) -> Listed
+    ensures { λ r. ⌜ r ≡ record { number = number; place = place; overlaps = 0; written = 0 } ⌝ }
+{
+    Listed {
+        number: number,
+        place: place,
+        overlaps: 0,
+        written: 0,
+    }
+}
+
+// The list of the overlaps of n words that lie in the bytes.
+fn list_words(heads: &[usize], headlens: &[usize], bytes: &[u8], n: usize, out: &mut [u8]) -> Listed
+    requires { ⌜ Laid (now heads) (now headlens) (now bytes) n ⌝ }
+    requires { ⌜ (n ≤ 64) × Short (now headlens) n ⌝ }
+    ensures { λ r. ⌜ r ≡ wordsListed (length (now (out .entry))) (laidWords (now (heads .entry)) (now (headlens .entry)) (now (bytes .entry)) n) ⌝ }
+    ensures { λ _. ⌜ now (out .exit) ≡ fitted (overlapText (laidWords (now (heads .entry)) (now (headlens .entry)) (now (bytes .entry)) n)) (now (out .entry)) ⌝ }
+{
+    let m = measure(heads, headlens, bytes, n);
+    if out.len() < m.bytes {
+        return refusal(19, m.bytes as u64);
+    }
+    let written = write_list(heads, headlens, bytes, n, out);
+    Listed {
+        number: 0,
+        place: 0,
+        overlaps: m.count as u64,
+        written: written as u64,
+    }
+}
+
+// Refusals 8 and 9 for the count polynomials of a basis that was read, and the list where there is none.
+fn list_basis(
+    p: u32,
+    coefs: &[u32],
+    starts: &[usize],
+    lens: &[usize],
+    bytes: &[u8],
+    firsts: &[usize],
+    base: usize,
+    count: usize,
+    m: usize,
+    out: &mut [u8],
+) -> Listed
+    requires { ⌜ Terms p (now coefs) (now starts) (now lens) (now bytes) m ⌝ }
+    requires { ⌜ Runs (now firsts) base count m ⌝ }
+    requires { ⌜ count ≤ 64 ⌝ }
+    ensures { λ r. ⌜ r ≡ basisListed (length (now (out .entry))) (familyAt (now (coefs .entry)) (now (starts .entry)) (now (lens .entry)) (now (bytes .entry)) (now (firsts .entry)) base count) ⌝ }
+    ensures { λ _. ⌜ now (out .exit) ≡ basisOutput (now (out .entry)) (familyAt (now (coefs .entry)) (now (starts .entry)) (now (lens .entry)) (now (bytes .entry)) (now (firsts .entry)) base count) ⌝ }
+{
+    let mut heads = [0usize; 64];
+    let mut headlens = [0usize; 64];
+    let wrong = leading_words(
+        p,
+        coefs,
+        starts,
+        lens,
+        bytes,
+        firsts,
+        base,
+        count,
+        m,
+        &mut heads,
+        &mut headlens,
+    );
+    if wrong != 0 {
+        return refusal(8, wrong as u64);
+    }
+    let held = first_holding(&heads, &headlens, bytes, count);
+    if held != 0 {
+        return refusal(9, held as u64);
+    }
+    list_words(&heads, &headlens, bytes, count, out)
+}
+
+// Lists a package's overlaps into the output slice. Any bytes are taken.
+pub fn list_package(package: &[u8], out: &mut [u8]) -> Listed
+    ensures { λ r. ⌜ r ≡ listedAs (now («package» .entry)) (length (now (out .entry))) ⌝ }
+    ensures { λ _. ⌜ now (out .exit) ≡ listedInto (now («package» .entry)) (now (out .entry)) ⌝ }
+{
+    let mut kinds = [0u32; 1024];
+    let mut items = [0u32; 1024];
+    let mut coefs = [0u32; 1024];
+    let mut starts = [0usize; 1024];
+    let mut lens = [0usize; 1024];
+    let mut firsts = [0usize; 98];
+    let r = read_package(
+        package,
+        &mut kinds,
+        &mut items,
+        &mut coefs,
+        &mut starts,
+        &mut lens,
+        &mut firsts,
+    );
+    match r {
+        Reading::Refusal { number, place } => refusal(number as u64, place as u64),
+        Reading::Whole {
+            head,
+            terms,
+            at,
+            line,
+        } => list_basis(
+            head.p,
+            &coefs,
+            &starts,
+            &lens,
+            package,
+            &firsts,
+            head.gens as usize + 1,
+            head.basis as usize,
+            terms,
+            out,
+        ),
+    }
+}

@@ -1,0 +1,3 @@
+-- What this crate and `reducing` are proved by.
+pub mod BasisLeads
+pub mod Reductions

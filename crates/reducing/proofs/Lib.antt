@@ -1,2 +1,0 @@
-mod BasisLeads
-mod Reductions

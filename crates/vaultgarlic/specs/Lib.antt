@@ -1,2 +1,0 @@
-pub mod ListingParts
-pub mod MemberNumber
