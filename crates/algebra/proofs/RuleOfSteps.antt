@@ -9,10 +9,10 @@ use Prim.Native.Nat.{ℕ}
 use native.Mathlib.Omega.{arith}
 use lib.ListN.{length}
 use Rattle.field.specs.Field.{Operations}
-use Rattle.words.specs.All.{All, done, _also_}
+use Rattle.lists.specs.All.{All, done, _also_}
 use Rattle.words.specs.Word.{Word}
 use Rattle.words.specs.Order.{Order, Lt, Admissible}
-use Rattle.words.proofs.Every.{all-map}
+use Rattle.lists.proofs.Every.{all-map, all-member}
 use Rattle.words.proofs.Admissible.{lt-irrefl}
 use Rattle.algebra.specs.Poly.{Term, Poly}
 use Rattle.algebra.specs.Written.{Written, zero, term}
@@ -22,11 +22,6 @@ use Rattle.algebra.specs.StepRule.{LeadStands, LeadInside, StepRule, NoS
 use Rattle.algebra.specs.Spot.{Spot, nowhere, found, spot, reduced, reducible, targetOf, target}
 use Rattle.algebra.proofs.Leading.{led-ne-nil}
 use Rattle.algebra.proofs.Spots.{spot-iff, spot-none-iff, target-reduced}
-
--- what holds of all elements holds of a member
-all-member : {A : Type 0} {P : A → Type 0} {xs : List A} {x : A} → All P xs → List·Memᴰ x xs → P x
-all-member {P = P} (p also ps) (List·Memᴰ·head e) = subst P (sym e) p
-all-member (p also ps) (List·Memᴰ·tail m) = all-member ps m
 
 module _ (ps : List Poly) where
   -- nothing is found exactly if no word of f has a leading word inside

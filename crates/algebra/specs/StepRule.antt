@@ -5,7 +5,7 @@
 use mathlib.Core.Logic.{_≢_}
 use mathlib.Core.List.{List, [], List·Memᴰ}
 use Prim.Native.Nat.{ℕ, _<_}
-use Rattle.words.specs.All.{All}
+use Rattle.lists.specs.All.{All}
 use Rattle.words.specs.Word.{Word}
 use Rattle.words.specs.Order.{Order, Lt}
 use Rattle.words.specs.Place.{Stands}

@@ -1,5 +1,6 @@
 -- Laws of `All`: every element of a list has a property.
-use mathlib.Core.List.{List, [], _∷_, _++_}
+use mathlib.Core.Path.{sym, subst}
+use mathlib.Core.List.{List, [], _∷_, _++_, List·Memᴰ, List·Memᴰ·head, List·Memᴰ·tail}
 use Prim.Native.Nat.{ℕ, zero, suc, _<_}
 use native.Mathlib.Omega.{arith}
 use lib.ListN.{length, getD}
@@ -36,3 +37,8 @@ module _ {A : Type 0} {P : A → Type 0} where
   pub all-of : ((x : A) → P x) → (xs : List A) → All P xs
   all-of h [] = done
   all-of h (x ∷ xs) = h x also all-of h xs
+
+  -- what holds of every element holds of a member
+  pub all-member : {xs : List A} {x : A} → All P xs → List·Memᴰ x xs → P x
+  all-member (p also ps) (List·Memᴰ·head e) = subst P (sym e) p
+  all-member (p also ps) (List·Memᴰ·tail m) = all-member ps m

@@ -10,18 +10,13 @@ use native.Mathlib.Omega.{arith}
 use lib.ListN.{length, getD, take, drop}
 use Rattle.lists.specs.All.{All, done, _also_}
 use Rattle.words.specs.Word.{Word}
-use Rattle.lists.proofs.Every.{all-map, all-append}
+use Rattle.lists.proofs.Every.{all-map, all-append, all-member}
 use Rattle.lists.specs.Same.{same}
 use Rattle.lists.proofs.Sameness.{same-refl, same-eq}
 use Rattle.overlaps.specs.Overlaps.{Overlap, Overlapping, IsOverlap, Before, Rising, none, next, shares, overlapsFrom, overlapsOf, withFirst, fromFirst, overlaps}
 
 abbrev at : ℕ → ℕ → ℕ → Overlap
 at i j s = record { first = i; second = j; shared = s }
-
--- what holds of each element of a list holds of a member
-all-member : {A : Type 0} {P : A → Type 0} {xs : List A} {x : A} → All P xs → List·Memᴰ x xs → P x
-all-member {P = P} (p also ps) (List·Memᴰ·head e) = subst P (sym e) p
-all-member (p also ps) (List·Memᴰ·tail m) = all-member ps m
 
 module _ (u v : Word) where
   shares-yes : (n : ℕ) → drop (length u - n) u ≡ take n v → shares u v n ≡ true
