@@ -18,12 +18,8 @@ struct Four {
 }
 
 extern "C" {
-    fn vg_list_overlaps(package: *const u8, package_len: usize, out: *mut u8, out_len: usize) -> Four;
-}
-
-#[cfg(not(feature = "listing-only"))]
-extern "C" {
     fn vg_check(package: *const u8, package_len: usize) -> Three;
+    fn vg_list_overlaps(package: *const u8, package_len: usize, out: *mut u8, out_len: usize) -> Four;
     fn vg_short_form(
         package: *const u8,
         package_len: usize,
@@ -41,34 +37,6 @@ extern "C" {
         budget: u32,
     ) -> Four;
 }
-
-/// Stand-ins that are never called: `Service::is_served` says no.
-#[cfg(feature = "listing-only")]
-mod absent {
-    use super::{Four, Three};
-
-    pub unsafe fn vg_check(_: *const u8, _: usize) -> Three {
-        unreachable!()
-    }
-
-    pub unsafe fn vg_short_form(
-        _: *const u8,
-        _: usize,
-        _: *const u8,
-        _: usize,
-        _: u32,
-        _: *mut u8,
-        _: usize,
-    ) -> Four {
-        unreachable!()
-    }
-
-    pub unsafe fn vg_member(_: *const u8, _: usize, _: *const u8, _: usize, _: u32) -> Four {
-        unreachable!()
-    }
-}
-#[cfg(feature = "listing-only")]
-use absent::{vg_check, vg_member, vg_short_form};
 
 /// Calls the library. `out` has the length that the input says.
 pub fn call(input: &Input, out: &mut [u8]) -> Numbers {

@@ -20,11 +20,6 @@ impl Service {
         }
     }
 
-    /// Whether the archive has this service.
-    pub fn is_served(self) -> bool {
-        self == Service::List || !cfg!(feature = "listing-only")
-    }
-
     /// Whether the service can answer with this number: 0 for success, else a refusal.
     pub fn can_answer(self, number: usize) -> bool {
         match self {
