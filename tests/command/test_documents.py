@@ -1,4 +1,4 @@
-"""The sessions in the documents and in --help are what the command prints, run at the top of the source."""
+"""The sessions in the documents and in --help are what the command and the program print, run at the top of the source."""
 import glob
 import os
 import re
@@ -9,14 +9,14 @@ from support import COMMAND, E_LINES, ROOT
 
 
 def sessions(document):
-    """The commands `    $ ...` that call vaultgarlic, each with the lines printed below it."""
+    """The commands `    $ ...` that call vaultgarlic or the program, each with the lines printed below it."""
     command, printed = None, []
     for line in document.split("\n") + [""]:
         begins = line.startswith("    $ ")
         if command is not None and (begins or not line.startswith("    ")):
             yield command, printed
             command = None
-        if begins and re.search(r"\bvaultgarlic (-|[a-z])", line):
+        if begins and re.search(r"\bvaultgarlic (-|[a-z])|\boverlap_list ", line):
             command, printed = line[6:], []
         elif command is not None:
             printed.append(line[4:])
