@@ -42,13 +42,3 @@ pub struct Input<'a> {
     /// Slices of length 0 are handed over as NULL.
     pub null: bool,
 }
-
-/// The numbers of an answer in the order of the C structs: the last is bytes written, or membership, or 0
-/// where a struct has three fields.
-#[derive(Clone, Copy, Debug, PartialEq, Eq)]
-pub struct Numbers {
-    pub number: u64,
-    pub place: u64,
-    pub count: u64,
-    pub last: u64,
-}

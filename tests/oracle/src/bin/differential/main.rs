@@ -8,7 +8,6 @@
 mod casefile;
 mod compare;
 mod exhaustive;
-mod ffi;
 mod fixed;
 mod input;
 mod options;
