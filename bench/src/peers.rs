@@ -1,4 +1,4 @@
-//! The three implementations behind one face, and that they agree.
+//! The three implementations, called in one way, and that they agree.
 
 use oracle::services as plain;
 use tuned::Answer;
