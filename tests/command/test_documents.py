@@ -35,11 +35,11 @@ class Documents(unittest.TestCase):
         return count
 
     def test_documents(self):
-        paths = [os.path.join(ROOT, "README.md"), os.path.join(ROOT, "examples", "README.md")] + glob.glob(os.path.join(ROOT, "docs", "*.md"))
         count = 0
-        for path in paths:
-            with open(path, encoding="utf-8") as file:
-                count += self.compare(file.read())
+        for pattern in ("*.md", "docs/**/*.md", "examples/*.md"):
+            for path in glob.glob(os.path.join(ROOT, pattern), recursive=True):
+                with open(path, encoding="utf-8") as file:
+                    count += self.compare(file.read())
         self.assertGreaterEqual(count, 5)
 
     def test_the_package_explained_in_format(self):

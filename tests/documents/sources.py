@@ -17,10 +17,16 @@ def read(path):
 CRATES = re.findall(r"^(\w+):", read("crates.txt"), re.M)
 
 
+def documents():
+    """Every document."""
+    patterns = ("*.md", "docs/**/*.md", "examples/*.md", "tests/*/*.md")
+    return [path for pattern in patterns for path in sorted(glob.glob(pattern, root_dir=ROOT, recursive=True))]
+
+
 @functools.cache
 def files():
     """Every file of code, definitions and proofs."""
-    return [os.path.relpath(path, ROOT) for ending in ("antt", "rt") for path in glob.glob(os.path.join(ROOT, "crates", "**", "*." + ending), recursive=True)]
+    return [path for ending in ("antt", "rt") for path in glob.glob("crates/**/*." + ending, root_dir=ROOT, recursive=True)]
 
 
 @functools.cache
@@ -34,7 +40,7 @@ def declared(path):
 @functools.cache
 def edits(crate):
     """The names of a crate's edits."""
-    return {os.path.basename(path)[:-5] for path in glob.glob(os.path.join(ROOT, "crates", crate, "must-fail", "*.edit"))}
+    return {name[:-5] for name in glob.glob("*.edit", root_dir=os.path.join(ROOT, "crates", crate, "must-fail"))}
 
 
 def ticked(text):
