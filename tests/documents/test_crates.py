@@ -18,16 +18,15 @@ def listed_groups():
 
 
 def shown_groups():
-    """The groups of README.md: the name of a group is a heading above rows of crates, or a row of its own in bold."""
-    groups, name = {}, ""
+    """The groups of README.md: the name of a group is a heading above a table of crates, or a row of its own in bold."""
+    groups, name, inside = {}, "", False
     for line in read("README.md").split("\n"):
-        heading = re.match(r"#+ (.*)|\| *\*\*(.*?)\*\*", line)
+        inside = line.startswith("| Crate |") or inside and line.startswith("|")
+        heading = re.match(r"#+ (.*)|\| \*\*(.*?)\*\* \|", line)
         if heading:
             name = heading[1] or heading[2]
-        elif line.startswith("| `"):
-            shown = set(ticked(line.split("|")[1])) & set(CRATES)
-            if shown:
-                groups.setdefault(name, set()).update(shown)
+        elif inside and line.startswith("| `"):
+            groups.setdefault(name, set()).update(ticked(line.split("|")[1]))
     return groups
 
 
