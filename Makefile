@@ -6,14 +6,14 @@
 # make uninstall     removes what install installed
 # make bench         the time of each service, beside two Rust implementations; BENCH='--ms 1000' for more repeats (docs/BENCH.md)
 # make soak          the comparison with the oracle on 1,000,000 inputs
-# make stack         the stack that each service uses, measured on the examples
+# make stack         the bytes of stack that a call of each service takes, measured on the examples
 # make gate-times    the last gate's seconds and edits, crate by crate, for docs/changes/; of another log with LOG=FILE; beside those of an
 #                    earlier log with BEFORE=FILE
 # make clean         removes what was built
 #
 # Parts of `make test`, in its order:
 # make layout        the layout of the sources
-# make documents     the names, files and edits that docs/PROOFS.md and README.md have, held to the sources
+# make documents     what the documents name (theorems, files, edits, crates, targets), held to the sources; the table of the gate's times
 # make gate          rt ci, which begins by removing target/
 # make library       the static library, proved
 # make client-test   the header as C++, and the examples in C, compiled and run
