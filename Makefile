@@ -6,21 +6,25 @@
 # make uninstall     removes what install installed
 # make bench         the time of each service, beside two Rust implementations; BENCH='--ms 1000' for more repeats (docs/BENCH.md)
 # make soak          the comparison with the oracle on 1,000,000 inputs
+# make stack         the bytes of stack that a call of each service takes, measured on the examples
+# make gate-times    the last gate's seconds and edits, crate by crate, for docs/changes/; of another log with LOG=FILE; beside those of an
+#                    earlier log with BEFORE=FILE
 # make clean         removes what was built
 #
 # Parts of `make test`, in its order:
 # make layout        the layout of the sources
+# make documents     what the documents name (theorems, files, edits, crates, targets), held to the sources; the table of the gate's times
 # make gate          rt ci, which begins by removing target/
 # make library       the static library, proved
-# make client-test   the header as C++, and the example of docs/C.md, compiled and run
-# make command-test  the command, the packages and formulas of examples/, the sessions in the documents
+# make client-test   the header as C++, and the examples in C, compiled and run
+# make command-test  the command and the program, the packages and formulas of examples/, the sessions in the documents
 # make install-test  installs to a temporary folder, builds a client there, uninstalls
 # make guard         the library on buffers of exact length, under the sanitizers
 # make differential  the oracle's own tests, and the comparison with it on 50,000 inputs
 
 SHELL = /bin/bash
 
-.PHONY: all test gate command install uninstall bench soak clean layout library client-test command-test install-test guard differential
+.PHONY: all test gate command install uninstall bench soak stack gate-times clean layout documents library client-test command-test install-test guard differential
 .NOTPARALLEL:
 
 PREFIX ?= /usr/local
@@ -33,14 +37,16 @@ CC = gcc
 CFLAGS = -std=c11 -O2 -Wall -Wextra -Wpedantic -Werror
 LIBRARY = target/staticlib/libvaultgarlic.a
 HEADER = include/vaultgarlic.h
+PROGRAM = target/bin/overlap_list
+SOURCES := crates.txt $(shell find crates -name '*.rt' -o -name '*.antt')
 CARGO_OPTIONS = --quiet --offline --release --manifest-path tests/oracle/Cargo.toml
 ORACLE = VG_LIB_DIR=../../target/staticlib cargo run $(CARGO_OPTIONS) --bin differential --
 
 all:
 	@rt check
 
-# The gate goes first: the library is then made of what it proved.
-test: layout gate library client-test command-test install-test guard differential
+# The gate goes before the C side: the library is then made of what it proved.
+test: layout documents gate library client-test command-test install-test guard differential
 	@tail -n 1 target/gate.log
 
 gate:
@@ -51,12 +57,22 @@ layout:
 	@echo '== layout of the sources'
 	@rt fmt --check
 
+documents:
+	@echo '== documents'
+	@python3 -B -m unittest discover -q -s tests/documents
+
 # `library` always asks rt, which knows by the files' contents whether anything is to be done.
-library $(LIBRARY): crates.txt $(shell find crates -name '*.rt' -o -name '*.antt')
+library $(LIBRARY): $(SOURCES)
 	@echo '== static library'
 	@mkdir -p target
 	@rt staticlib vaultgarlic >target/staticlib.log 2>&1 || { cat target/staticlib.log; exit 1; }
 	@touch $(LIBRARY)
+
+# The gate leaves the program behind; without a gate, rt makes it.
+$(PROGRAM): $(SOURCES)
+	@mkdir -p target
+	@rt check overlap_list >target/program.log 2>&1 || { cat target/program.log; exit 1; }
+	@touch $@
 
 command: target/vaultgarlic
 
@@ -67,7 +83,7 @@ client-test: $(LIBRARY)
 	@echo '== C client'
 	@CC='$(CC)' tests/c/client.sh
 
-command-test: target/vaultgarlic
+command-test: target/vaultgarlic $(PROGRAM)
 	@echo '== command'
 	@python3 -B -m unittest discover -q -s tests/command
 
@@ -91,6 +107,15 @@ differential: $(LIBRARY)
 soak: $(LIBRARY)
 	@echo '== comparison with the oracle, 1,000,000 inputs'
 	@$(ORACLE) --inputs 1000000
+
+stack: $(LIBRARY)
+	@$(CC) $(CFLAGS) -Iinclude -Itools/vaultgarlic bench/stack.c tools/vaultgarlic/input.c tools/vaultgarlic/show.c $(LIBRARY) -o target/stack
+	@target/stack examples/*.pkg examples/refused/*.pkg -- examples/*.formula examples/formulas/*.formula
+
+LOG ?= target/gate.log
+
+gate-times:
+	@python3 -B tools/gate_times.py $(BEFORE) $(LOG)
 
 define PC
 prefix=$(PREFIX)

@@ -60,7 +60,7 @@ fn leads(package: &[u8]) -> (usize, u8, Vec<String>) {
 
 /// A formula of so many terms of so many letters. Half of the pieces of a word are leading words of the package.
 pub fn random_formula(seed: u64, package: &[u8], terms: usize, len: usize) -> Vec<u8> {
-    let random = &mut Random(seed);
+    let random = &mut Random::new(seed);
     let (p, last, leads) = leads(package);
     let mut words: Vec<String> = Vec::new();
     while words.len() < terms {

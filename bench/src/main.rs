@@ -2,7 +2,6 @@
 //!
 //! `--ms N` gives each row N milliseconds; `--table NAME` prints one table: packages, formulas, bytes or growth.
 
-mod archive;
 mod inputs;
 mod many_overlaps;
 mod measure;

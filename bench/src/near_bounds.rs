@@ -37,7 +37,7 @@ fn pair(random: &mut Random, i: usize) -> Pair {
 
 /// The package of so many pairs, 1 to 31, in at most so many bytes.
 pub fn package(pairs: usize, bytes: usize) -> Vec<u8> {
-    let mut random = Random(pairs as u64);
+    let mut random = Random::new(pairs as u64);
     let pairs: Vec<Pair> = (0..pairs).map(|i| pair(&mut random, i)).collect();
     let n = pairs.len();
     let mut head = format!("p letters gens basis\n{P} 26 {} {}\nkind item coef word\n", 1 + n, 2 + 2 * n);

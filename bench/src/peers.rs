@@ -1,6 +1,5 @@
-//! The three implementations behind one face, and that they agree.
+//! The three implementations, called in one way, and that they agree.
 
-use crate::archive;
 use oracle::services as plain;
 use tuned::Answer;
 
@@ -19,6 +18,12 @@ pub enum Peer {
 
 pub const PEERS: [Peer; 3] = [Peer::Ours, Peer::Tuned, Peer::Plain];
 
+/// The library's answer as that of the others.
+fn ours(numbers: archive::Numbers) -> Answer {
+    let archive::Numbers { number, place, count, last } = numbers;
+    Answer { number, place, count, last }
+}
+
 /// The plain version gives its output as bytes of its own; they go to the output as the others' do.
 fn write_plain(answer: plain::Answer, out: &mut [u8]) -> Answer {
     let text = answer.output.unwrap_or_default();
@@ -29,7 +34,7 @@ fn write_plain(answer: plain::Answer, out: &mut [u8]) -> Answer {
 impl Peer {
     pub fn check(self, package: &[u8]) -> Answer {
         match self {
-            Peer::Ours => archive::check(package),
+            Peer::Ours => ours(archive::check(Some(package))),
             Peer::Tuned => tuned::check(package),
             Peer::Plain => write_plain(plain::check(package), &mut []),
         }
@@ -37,7 +42,7 @@ impl Peer {
 
     pub fn list_overlaps(self, package: &[u8], out: &mut [u8]) -> Answer {
         match self {
-            Peer::Ours => archive::list_overlaps(package, out),
+            Peer::Ours => ours(archive::list_overlaps(Some(package), Some(out))),
             Peer::Tuned => tuned::list_overlaps(package, out),
             Peer::Plain => write_plain(plain::list_overlaps(package, out.len()), out),
         }
@@ -45,7 +50,7 @@ impl Peer {
 
     pub fn short_form(self, package: &[u8], formula: &[u8], out: &mut [u8]) -> Answer {
         match self {
-            Peer::Ours => archive::short_form(package, formula, BUDGET, out),
+            Peer::Ours => ours(archive::short_form(Some(package), Some(formula), BUDGET, Some(out))),
             Peer::Tuned => tuned::short_form(package, formula, BUDGET, out),
             Peer::Plain => write_plain(plain::short_form(package, formula, BUDGET, out.len()), out),
         }

@@ -1,20 +1,17 @@
-//! Random numbers from a fixed seed: every run measures the same inputs.
+//! Random numbers and words from a fixed seed: every run measures the same inputs.
 
-pub struct Random(pub u64);
+use oracle::generate::random::Random as Numbers;
+
+pub struct Random(Numbers);
 
 impl Random {
-    /// The generator splitmix64.
-    fn next(&mut self) -> u64 {
-        self.0 = self.0.wrapping_add(0x9e37_79b9_7f4a_7c15);
-        let mut z = self.0;
-        z = (z ^ (z >> 30)).wrapping_mul(0xbf58_476d_1ce4_e5b9);
-        z = (z ^ (z >> 27)).wrapping_mul(0x94d0_49bb_1331_11eb);
-        z ^ (z >> 31)
+    pub fn new(seed: u64) -> Random {
+        Random(Numbers::from_state(seed))
     }
 
     /// A number from 0 to n - 1.
     pub fn below(&mut self, n: usize) -> usize {
-        (self.next() % n as u64) as usize
+        self.0.below(n as u64) as usize
     }
 
     /// A word of so many letters, from `first` to `last`.

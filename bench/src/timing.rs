@@ -12,7 +12,7 @@ pub struct Effort {
 /// Every call is repeated so often at least.
 const LEAST: u32 = 3;
 
-/// The best time of each call in microseconds. A call that has had its share of the row's time sits the rest out.
+/// The best time of each call in microseconds. A call that has had its share of the row's time is not repeated again.
 pub fn best(effort: Effort, calls: &mut [Box<dyn FnMut() + '_>]) -> Vec<f64> {
     let share = effort.row / calls.len() as u32;
     let mut bests = vec![Duration::MAX; calls.len()];

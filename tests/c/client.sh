@@ -1,5 +1,5 @@
 #!/bin/sh
-# The header serves C++; the example in docs/C.md is examples/client.c, compiles, and prints what the document says.
+# The header serves C++; the example in docs/C.md is examples/client.c; the examples in C compile, and print what they should.
 set -e
 cd "$(dirname "$0")/../.."
 cc=${CC:-gcc}
@@ -11,14 +11,27 @@ if command -v g++ >/dev/null; then
     g++ -fsyntax-only -Wall -Wextra -Wpedantic -Werror -Iinclude "$to/header.cc"
 fi
 
-# The one code block in C of the document.
+# Compiles a file and runs it with arguments; what it prints is held to the file `expected`.
+prints() {
+    source=$1
+    shift
+    "$cc" -std=c11 -O2 -Wall -Wextra -Wpedantic -Werror -Iinclude "$source" -Ltarget/staticlib -lvaultgarlic -o "$to/example"
+    "$to/example" "$@" >"$to/printed"
+    diff "$to/expected" "$to/printed" >&2 || { echo "$source prints something else" >&2; exit 1; }
+}
+
+# The one code block in C of the document, and the session below it.
 awk '/^```c$/ { inside = 1; next } /^```$/ { inside = 0 } inside' docs/C.md >"$to/example.c"
 diff "$to/example.c" examples/client.c >&2 || { echo 'docs/C.md and examples/client.c differ' >&2; exit 1; }
+awk '/^    \$ \.\/[a-z_]* / { inside = 1; next } !/^    / { inside = 0 } inside { print substr($0, 5) }' docs/C.md >"$to/expected"
+prints examples/client.c examples/e.pkg examples/aba.formula
 
-"$cc" -std=c11 -O2 -Wall -Wextra -Wpedantic -Werror -Iinclude "$to/example.c" -Ltarget/staticlib -lvaultgarlic -o "$to/example"
-"$to/example" examples/e.pkg examples/aba.formula >"$to/printed"
-
-# The session below it.
-awk '/^    \$ \.\/example / { inside = 1; next } !/^    / { inside = 0 } inside { print substr($0, 5) }' docs/C.md >"$to/expected"
-diff "$to/expected" "$to/printed" >&2 || { echo 'the example prints something else than docs/C.md says' >&2; exit 1; }
-echo 'the example of docs/C.md runs'
+cat >"$to/expected" <<'END'
+item first second shared word
+1 1 1 1 aaa
+2 1 2 1 aab
+a sum over the relations after 2 steps
+no such sum after 2 steps
+END
+prints examples/in_memory.c
+echo 'the examples in C run'

@@ -7,8 +7,6 @@
  * watches in code that it compiled and in the functions of the C library; with buffers that end where a page
  * begins that must not be touched; and with buffers that begin where such a page ends. The last two catch any
  * access outside a buffer, in the archive too, which no sanitizer compiled.
- *
- * With -DLISTING_ONLY cases of other services are passed over, for an archive that has no other service.
  */
 #define _DEFAULT_SOURCE
 #include <stdint.h>
@@ -70,34 +68,25 @@ static uint8_t *place_buffer(int placement, uint8_t *fence, size_t len, int null
 }
 
 static answer call(const head *h, const uint8_t *package, const uint8_t *formula, uint8_t *out) {
-    answer a = {0, 0, 0, 0};
     switch (h->service) {
-    case LISTING: {
-        vg_listed r = vg_list_overlaps(package, h->package_len, out, h->out_len);
-        a = (answer){r.number, r.place, r.overlaps, r.written};
-        break;
-    }
-#ifndef LISTING_ONLY
     case CHECK: {
         vg_checked r = vg_check(package, h->package_len);
-        a = (answer){r.number, r.place, r.overlaps, 0};
-        break;
+        return (answer){r.number, r.place, r.overlaps, 0};
+    }
+    case LISTING: {
+        vg_listed r = vg_list_overlaps(package, h->package_len, out, h->out_len);
+        return (answer){r.number, r.place, r.overlaps, r.written};
     }
     case SHORT_FORM: {
         vg_shortened r = vg_short_form(package, h->package_len, formula, h->formula_len, (uint32_t)h->budget, out,
                                        h->out_len);
-        a = (answer){r.number, r.place, r.steps, r.written};
-        break;
+        return (answer){r.number, r.place, r.steps, r.written};
     }
-    case MEMBERSHIP: {
+    default: {
         vg_membership r = vg_member(package, h->package_len, formula, h->formula_len, (uint32_t)h->budget);
-        a = (answer){r.number, r.place, r.steps, r.member};
-        break;
+        return (answer){r.number, r.place, r.steps, r.member};
     }
-#endif
     }
-    (void)formula;
-    return a;
 }
 
 /* Whether the output holds the stored bytes, and what it held before behind them. */
@@ -166,10 +155,6 @@ int main(int argc, char **argv) {
         get(file, formula, h.formula_len);
         get(file, written, h.written);
         cases++;
-#ifdef LISTING_ONLY
-        if (h.service != LISTING)
-            continue;
-#endif
         for (int placement = EXACT; same && placement < PLACEMENTS; placement++, calls++)
             same = agrees(&h, cases, placement, fences);
     }

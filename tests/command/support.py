@@ -1,4 +1,4 @@
-"""Running the command: where things are, and what a run gives."""
+"""Running the command and the program: where things are, and what a run gives."""
 import os
 import subprocess
 import tempfile
@@ -6,6 +6,7 @@ import unittest
 
 ROOT = os.path.dirname(os.path.dirname(os.path.dirname(os.path.abspath(__file__))))
 COMMAND = os.path.abspath(os.environ.get("VAULTGARLIC", os.path.join(ROOT, "target", "vaultgarlic")))
+PROGRAM = os.path.join(ROOT, "target", "bin", "overlap_list")
 EXAMPLES = os.path.join(ROOT, "examples")
 
 with open(os.path.join(EXAMPLES, "e.pkg"), "rb") as file:
@@ -27,6 +28,22 @@ def formula(*terms):
     return text((b"coef word",) + terms)
 
 
+def many_overlaps():
+    """A package whose list is longer than 65,536 bytes: 250,130, as decision A40 has it."""
+    words = [b"a" * i + b"b" + b"a" * (23 - i) for i in range(24)]
+    return text([b"p letters gens basis", b"7 2 0 24", b"kind item coef word"]
+                + [b"B %d 1 %s" % (i + 1, word) for i, word in enumerate(words)] + [b"kind item coef left of right"])
+
+
+def run(*words, stdin=b"", **more):
+    """Exit status, standard output and standard error. What is read is bytes or a file."""
+    options = dict(stdout=subprocess.PIPE, stderr=subprocess.PIPE, timeout=60)
+    options["input" if isinstance(stdin, bytes) else "stdin"] = stdin
+    options.update(more)
+    done = subprocess.run(words, check=False, **options)
+    return done.returncode, done.stdout, done.stderr
+
+
 class Command(unittest.TestCase):
     """A case with a folder of its own, in which the command is run."""
 
@@ -41,12 +58,9 @@ class Command(unittest.TestCase):
             to.write(content)
         return name
 
-    def run_command(self, *arguments, stdin=b"", **more):
+    def run_command(self, *arguments, **more):
         """Exit status, standard output and standard error."""
-        options = dict(cwd=self.folder, input=stdin, stdout=subprocess.PIPE, stderr=subprocess.PIPE, timeout=60)
-        options.update(more)
-        done = subprocess.run([COMMAND] + list(arguments), check=False, **options)
-        return done.returncode, done.stdout, done.stderr
+        return run(COMMAND, *arguments, cwd=self.folder, **more)
 
     def answers(self, expected, *arguments, stdin=b"", told=b""):
         """Answered: status 0, these bytes on standard output, and nothing but `told` on standard error."""

@@ -1,5 +1,5 @@
 """What the four services answer, and where to."""
-from support import Command, E, E_LIST, formula, text, with_line
+from support import Command, E, E_LIST, formula, many_overlaps, text, with_line
 
 
 class Answers(Command):
@@ -20,11 +20,7 @@ class Answers(Command):
         self.answers(E_LIST, "overlaps", "-", stdin=with_line(15))
 
     def test_overlaps_over_65536_bytes(self):
-        words = [b"a" * i + b"b" + b"a" * (23 - i) for i in range(24)]
-        package = text([b"p letters gens basis", b"7 2 0 24", b"kind item coef word"]
-                       + [b"B %d 1 %s" % (i + 1, word) for i, word in enumerate(words)] + [b"kind item coef left of right"])
-        status, out, told = self.run_command("overlaps", "-", stdin=package)
-        # The size is that of decision A40: `refused 19 250130` where 65,536 bytes are lent.
+        status, out, told = self.run_command("overlaps", "-", stdin=many_overlaps())
         self.assertEqual((status, len(out), told), (0, 250130, b""))
         self.assertTrue(out.startswith(b"item first second shared word\n1 1 2 1 baaa"))
 

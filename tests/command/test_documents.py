@@ -1,4 +1,4 @@
-"""The sessions in the documents and in --help are what the command prints, run at the top of the source."""
+"""The sessions in the documents and in --help are what the command and the program print, run at the top of the source."""
 import glob
 import os
 import re
@@ -9,14 +9,14 @@ from support import COMMAND, E_LINES, ROOT
 
 
 def sessions(document):
-    """The commands `    $ ...` that call vaultgarlic, each with the lines printed below it."""
+    """The commands `    $ ...` that call vaultgarlic or the program, each with the lines printed below it."""
     command, printed = None, []
     for line in document.split("\n") + [""]:
         begins = line.startswith("    $ ")
         if command is not None and (begins or not line.startswith("    ")):
             yield command, printed
             command = None
-        if begins and re.search(r"\bvaultgarlic (-|[a-z])", line):
+        if begins and re.search(r"\bvaultgarlic (-|[a-z])|\boverlap_list ", line):
             command, printed = line[6:], []
         elif command is not None:
             printed.append(line[4:])
@@ -35,11 +35,11 @@ class Documents(unittest.TestCase):
         return count
 
     def test_documents(self):
-        paths = [os.path.join(ROOT, "README.md"), os.path.join(ROOT, "examples", "README.md")] + glob.glob(os.path.join(ROOT, "docs", "*.md"))
         count = 0
-        for path in paths:
-            with open(path, encoding="utf-8") as file:
-                count += self.compare(file.read())
+        for pattern in ("*.md", "docs/**/*.md", "examples/*.md"):
+            for path in glob.glob(os.path.join(ROOT, pattern), recursive=True):
+                with open(path, encoding="utf-8") as file:
+                    count += self.compare(file.read())
         self.assertGreaterEqual(count, 5)
 
     def test_the_package_explained_in_format(self):

@@ -7,7 +7,7 @@ import sys
 import tempfile
 import unittest
 
-from support import COMMAND, EXAMPLES
+from support import COMMAND, EXAMPLES, run
 
 # Number and place of each refusal: 01's table 'Numbers and places', where the input is one of that table's. Lines of 07 and 10: three lines
 # above the terms, so the 49th is line 52; 48 + 1 terms, the names line 53, so the eleventh sum line is line 64.
@@ -33,11 +33,6 @@ REFUSED = {
 # The place as the message has it: behind the file's name, or in the words.
 LINE = r"\A[^\n]*%s\.pkg:(\d+): refused (\d+): "
 ITEM = r"\A[^\n]*%s\.pkg: refused (\d+): [^\n]*?\b(?:[BG]|overlap) (\d+)\b"
-
-
-def run(*arguments):
-    done = subprocess.run([COMMAND] + list(arguments), stdout=subprocess.PIPE, stderr=subprocess.PIPE, check=False, timeout=60)
-    return done.returncode, done.stdout, done.stderr
 
 
 def content(path):
@@ -72,7 +67,7 @@ class Refused(unittest.TestCase):
         for name, (number, place) in REFUSED.items():
             with self.subTest(name):
                 folder = self.folder if name == "01-too-long" else self.refused
-                status, out, told = run("check", os.path.join(folder, name + ".pkg"))
+                status, out, told = run(COMMAND, "check", os.path.join(folder, name + ".pkg"))
                 self.assertEqual((status, out), (1, b""))
                 self.assertEqual(self.place(name, number, told.decode("ascii")), place)
 
@@ -101,12 +96,12 @@ class Accepted(unittest.TestCase):
         self.assertEqual(len(packages), 8)
         for package in packages:
             with self.subTest(os.path.basename(package)):
-                status, out, told = run("check", package)
+                status, out, told = run(COMMAND, "check", package)
                 self.assertEqual((status, told), (0, b""))
                 self.assertRegex(out, rb"\Aaccepted, \d+ overlaps?\n\Z")
                 # The count is the number of lines that the list has below its names line.
                 count = int(re.search(rb"\d+", out).group())
-                self.assertEqual(run("overlaps", package)[1].count(b"\n"), count + 1)
+                self.assertEqual(run(COMMAND, "overlaps", package)[1].count(b"\n"), count + 1)
 
 
 class Formulas(unittest.TestCase):
@@ -128,9 +123,9 @@ class Formulas(unittest.TestCase):
                 formula = os.path.join(EXAMPLES, "formulas", name + ".formula")
                 short = content(os.path.join(EXAMPLES, "formulas", name + ".short"))
                 told = ("%s step%s\n" % (steps, "" if steps == "1" else "s")).encode()
-                self.assertEqual(run("short", "--steps", package, formula), (0, short, told))
+                self.assertEqual(run(COMMAND, "short", "--steps", package, formula), (0, short, told))
                 member = b"yes\n" if short == b"coef word\n" else b"no\n"
-                self.assertEqual(run("member", "--steps", package, formula), (0, member, told))
-                self.assertEqual(run("short", "--budget", steps, package, formula)[0], 0)
+                self.assertEqual(run(COMMAND, "member", "--steps", package, formula), (0, member, told))
+                self.assertEqual(run(COMMAND, "short", "--budget", steps, package, formula)[0], 0)
                 if steps != "0":
-                    self.assertEqual(run("short", "--budget", str(int(steps) - 1), package, formula)[0], 1)
+                    self.assertEqual(run(COMMAND, "short", "--budget", str(int(steps) - 1), package, formula)[0], 1)

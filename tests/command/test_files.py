@@ -1,9 +1,8 @@
 """Files that cannot be read or written, and bytes of any kind."""
 import os
-import subprocess
 import unittest
 
-from support import COMMAND, Command, E, E_LINES, formula, text
+from support import COMMAND, Command, E, E_LINES, formula, run, text
 
 
 class Files(Command):
@@ -22,9 +21,9 @@ class Files(Command):
         self.troubled(b"e.pkg: Permission denied", "check", "e.pkg")
 
     def test_closed_standard_input(self):
-        done = subprocess.run(["sh", "-c", '"$0" check - <&-', COMMAND], stdout=subprocess.PIPE, stderr=subprocess.PIPE, check=False)
-        self.assertEqual((done.returncode, done.stdout), (2, b""))
-        self.assertTrue(done.stderr.startswith(b"vaultgarlic: <stdin>: "))
+        status, out, told = run("sh", "-c", '"$0" check - <&-', COMMAND)
+        self.assertEqual((status, out), (2, b""))
+        self.assertTrue(told.startswith(b"vaultgarlic: <stdin>: "))
 
     def test_full_device(self):
         self.put("aba", formula(b"1 aba"))
@@ -35,9 +34,9 @@ class Files(Command):
             self.assertEqual((status, told), (2, b"vaultgarlic: standard output: No space left on device\n"))
 
     def test_closed_standard_output(self):
-        done = subprocess.run(["sh", "-c", '"$0" check e.pkg >&-', COMMAND], cwd=self.folder, stderr=subprocess.PIPE, check=False)
-        self.assertEqual(done.returncode, 2)
-        self.assertTrue(done.stderr.startswith(b"vaultgarlic: standard output: "))
+        status, _, told = run("sh", "-c", '"$0" check e.pkg >&-', COMMAND, cwd=self.folder)
+        self.assertEqual(status, 2)
+        self.assertTrue(told.startswith(b"vaultgarlic: standard output: "))
 
     def test_a_file_is_not_changed(self):
         self.run_command("check", "e.pkg")
@@ -46,13 +45,10 @@ class Files(Command):
 
     def test_endless_input(self):
         with open("/dev/zero", "rb") as zero:
-            done = subprocess.run([COMMAND, "check", "-"], stdin=zero, stdout=subprocess.PIPE, stderr=subprocess.PIPE, check=False, timeout=60)
-        self.assertEqual((done.returncode, done.stdout), (1, b""))
-        self.assertEqual(done.stderr, b"vaultgarlic: <stdin>: refused 1: a package has at most 65536 bytes, this one has more\n")
-        done = subprocess.run([COMMAND, "short", "e.pkg", "/dev/zero"], cwd=self.folder, stdout=subprocess.PIPE, stderr=subprocess.PIPE,
-                              check=False, timeout=60)
-        self.assertEqual(done.returncode, 1)
-        self.assertIn(b"/dev/zero:1: refused 16: the line does not read", done.stderr)
+            self.refuses(["vaultgarlic: <stdin>: refused 1: a package has at most 65536 bytes, this one has more"], "check", "-", stdin=zero)
+        status, _, told = self.run_command("short", "e.pkg", "/dev/zero")
+        self.assertEqual(status, 1)
+        self.assertIn(b"/dev/zero:1: refused 16: the line does not read", told)
 
 
 class Bytes(Command):

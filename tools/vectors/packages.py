@@ -1,24 +1,8 @@
 """Packages and formulas as texts: document 01's package E, E with lines put in or left out, and packages built for one purpose."""
 import itertools
 
-E = """p letters gens basis
-7 2 1 2
-kind item coef word
-G 1 1 aa
-G 1 6 b
-B 1 1 aa
-B 1 6 b
-B 2 1 ab
-B 2 6 ba
-kind item coef left of right
-B 1 1 - 1 -
-B 2 1 - 1 a
-B 2 6 a 1 -
-G 1 1 - 1 -
-O 1 1 - 2 -
-O 2 1 - 2 a
-O 2 1 b 1 -
-"""
+with open("examples/e.pkg", encoding="ascii") as file:
+    E = file.read()
 LINES = E.split("\n")[:-1]
 LIST_NAMES = "item first second shared word\n"
 E_LIST = LIST_NAMES + "1 1 1 1 aaa\n2 1 2 1 aab\n"

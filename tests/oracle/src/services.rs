@@ -5,6 +5,7 @@ use crate::formula::{formula_text, read_formula};
 use crate::leads::judge_leads;
 use crate::overlaps::{list_text, overlaps};
 use crate::package::{read, PACKAGE_BYTES};
+use crate::poly::Poly;
 use crate::refusal::{refuse, Refusal};
 use crate::steps::run;
 
@@ -48,12 +49,17 @@ pub fn list_overlaps(package: &[u8], out_len: usize) -> Answer {
     Answer::of(result())
 }
 
+/// A formula's short form under a package, and the steps to it.
+fn reduce(package: &[u8], formula: &[u8], budget: u32) -> Result<(Poly, u64), Refusal> {
+    let (package, _) = accept(package)?;
+    let formula = read_formula(formula, package.p, package.letters)?;
+    run(&package, formula, budget.into())
+}
+
 /// Short form: number, place, steps, output.
 pub fn short_form(package: &[u8], formula: &[u8], budget: u32, out_len: usize) -> Answer {
     let result = || {
-        let (package, _) = accept(package)?;
-        let formula = read_formula(formula, package.p, package.letters)?;
-        let (short, steps) = run(&package, formula, budget.into())?;
+        let (short, steps) = reduce(package, formula, budget)?;
         let output = fitting(formula_text(&short), out_len)?;
         Ok(Answer { count: steps, output, ..Answer::default() })
     };
@@ -63,9 +69,7 @@ pub fn short_form(package: &[u8], formula: &[u8], budget: u32, out_len: usize) -
 /// Membership: number, place, steps, yes or no.
 pub fn member(package: &[u8], formula: &[u8], budget: u32) -> Answer {
     let result = || {
-        let (package, _) = accept(package)?;
-        let formula = read_formula(formula, package.p, package.letters)?;
-        let (short, steps) = run(&package, formula, budget.into())?;
+        let (short, steps) = reduce(package, formula, budget)?;
         Ok(Answer { count: steps, member: short.is_empty().into(), ..Answer::default() })
     };
     Answer::of(result())

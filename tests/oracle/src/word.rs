@@ -64,7 +64,7 @@ mod tests {
     use super::Word;
 
     #[test]
-    fn order_of_the_paper() {
+    fn order_of_document_01() {
         let w = Word::new;
         assert!(w("ab") > w("ba"));
         assert!(w("aa") > w("b"));

@@ -146,15 +146,11 @@ fn padded_lines(bytes: usize) -> u64 {
 #[cfg(test)]
 mod tests {
     use super::*;
-    use crate::services::{check, list_overlaps};
+    use crate::services::list_overlaps;
 
     #[test]
     fn rows_hold() {
-        for row in bound_packages() {
-            let answer = check(&row.package);
-            let text = String::from_utf8_lossy(&row.package[..row.package.len().min(600)]).into_owned();
-            assert_eq!((answer.number, answer.place, answer.count), row.check, "{text}");
-        }
+        bound_packages().iter().for_each(Row::assert_holds);
     }
 
     #[test]

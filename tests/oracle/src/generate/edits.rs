@@ -1,24 +1,6 @@
-//! The paper's package E, and edits of it by line numbers.
+//! Document 01's package E, and edits of it by line numbers.
 
-pub const E: &str = "\
-p letters gens basis
-7 2 1 2
-kind item coef word
-G 1 1 aa
-G 1 6 b
-B 1 1 aa
-B 1 6 b
-B 2 1 ab
-B 2 6 ba
-kind item coef left of right
-B 1 1 - 1 -
-B 2 1 - 1 a
-B 2 6 a 1 -
-G 1 1 - 1 -
-O 1 1 - 2 -
-O 2 1 - 2 a
-O 2 1 b 1 -
-";
+pub const E: &str = include_str!("../../../../examples/e.pkg");
 
 /// E with these lines put in place of its own; a line 18 is added behind the last one.
 pub fn with(changes: &[(usize, &str)]) -> String {

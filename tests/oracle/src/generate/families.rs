@@ -70,7 +70,7 @@ fn code(index: u64) -> Word {
     Word(vec![b'a', b'b' + (index / 25) as u8, b'b' + (index % 25) as u8])
 }
 
-/// `copies` of the paper's package E side by side: letters a and b of copy i are two code words u and v. Each
+/// `copies` of document 01's package E side by side: letters a and b of copy i are two code words u and v. Each
 /// copy has relation uu - v, basis uu - v and uv - vu, and the overlaps uuu and uuv.
 pub fn copies_of_e(p: u64, copies: u64) -> Draft {
     let none = Word::empty();

@@ -13,6 +13,9 @@ pub struct FormulaRow {
 
 pub fn formula_rows() -> Vec<FormulaRow> {
     let mut rows = Vec::new();
+    let mut put = |formula: Vec<u8>, budget: u32, (number, place): (u64, u64), steps: u32, output: String| {
+        rows.push(FormulaRow { formula, budget, number, place, steps: steps.into(), output });
+    };
     // Terms, and the terms of the short form, parted by commas; steps. Budgets at and around the steps.
     for (terms, short, steps) in [
         ("1 aaa", "1 ba", 1),
@@ -28,30 +31,14 @@ pub fn formula_rows() -> Vec<FormulaRow> {
         ("", "", 0),
     ] {
         for budget in [steps, steps + 1, u32::MAX] {
-            let (number, place, steps) = (0, 0, steps.into());
-            rows.push(FormulaRow {
-                formula: text(terms),
-                budget,
-                number,
-                place,
-                steps,
-                output: lines(short),
-            });
+            put(text(terms), budget, (0, 0), steps, lines(short));
         }
         for budget in 0..steps {
-            let place = budget.into();
-            rows.push(FormulaRow {
-                formula: text(terms),
-                budget,
-                number: 18,
-                place,
-                steps: 0,
-                output: String::new(),
-            });
+            put(text(terms), budget, (18, budget.into()), 0, String::new());
         }
     }
     for (formula, place) in unreadable() {
-        rows.push(FormulaRow { formula, budget: 9, number: 16, place, steps: 0, output: String::new() });
+        put(formula, 9, (16, place), 0, String::new());
     }
     rows
 }

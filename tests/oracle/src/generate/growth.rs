@@ -126,7 +126,7 @@ mod tests {
             let answer = short_form(&package, &formula, 1000, 1 << 20);
             (answer.number, answer.place, answer.count)
         };
-        // 48 + 16 × 29 = 512; 48 + 15 × 31 = 513; 48 + 11 × 46 = 554, the example of the paper.
+        // 48 + 16 × 29 = 512; 48 + 15 × 31 = 513; 48 + 11 × 46 = 554, document 01's example.
         assert_eq!(answer(31, 16), (0, 0, 16));
         assert_eq!(answer(31, 17), (17, 17, 0));
         assert_eq!(answer(33, 14), (0, 0, 14));

@@ -9,9 +9,13 @@ pub struct Random {
 impl Random {
     /// The numbers of one round of one seed. Rounds are independent, so each can be repeated alone.
     pub fn new(seed: u64, round: u64) -> Random {
-        let mut random = Random { state: seed };
-        let first = random.number();
+        let first = Random::from_state(seed).number();
         Random { state: first ^ round.wrapping_mul(0xd134_2543_de82_ef95) }
+    }
+
+    /// The numbers from this state on.
+    pub fn from_state(state: u64) -> Random {
+        Random { state }
     }
 
     pub fn number(&mut self) -> u64 {

@@ -1,7 +1,7 @@
 //! One comparison: the oracle's answer, the library's answer, and every byte around the output.
 
-use crate::ffi;
-use crate::input::{Input, Numbers, Service};
+use crate::input::{Input, Service};
+use archive::Numbers;
 use oracle::generate::random::Random;
 use oracle::services::{check, list_overlaps, member, short_form};
 
@@ -27,12 +27,26 @@ pub fn expect(input: &Input) -> Expected {
     Expected { numbers, output }
 }
 
+/// Calls the library.
+fn call(input: &Input, out: &mut [u8]) -> Numbers {
+    assert_eq!(out.len(), input.out_len);
+    let lent = |bytes| if input.null && <[u8]>::is_empty(bytes) { None } else { Some(bytes) };
+    let (package, formula) = (lent(input.package), lent(input.formula));
+    let out = if input.null && out.is_empty() { None } else { Some(out) };
+    match input.service {
+        Service::Check => archive::check(package),
+        Service::List => archive::list_overlaps(package, out),
+        Service::ShortForm => archive::short_form(package, formula, input.budget, out),
+        Service::Member => archive::member(package, formula, input.budget),
+    }
+}
+
 /// Calls the library and compares. The buffer begins with random bytes, so that a byte written without need
 /// is seen. None: nothing differs.
 pub fn difference(random: &mut Random, input: &Input, expected: &Expected) -> Option<String> {
     let mut wanted: Vec<u8> = (0..input.out_len + 2 * GUARD).map(|_| random.number() as u8).collect();
     let mut buffer = wanted.clone();
-    let numbers = ffi::call(input, &mut buffer[GUARD..GUARD + input.out_len]);
+    let numbers = call(input, &mut buffer[GUARD..GUARD + input.out_len]);
     wanted[GUARD..GUARD + expected.output.len()].copy_from_slice(&expected.output);
     let differing = (0..wanted.len()).find(|index| wanted[*index] != buffer[*index]);
     if numbers == expected.numbers && differing.is_none() {

@@ -58,7 +58,7 @@ fn empty_slices(sink: Sink) {
 }
 
 /// Formulas that grow to 512 terms and over. A basis polynomial of t terms makes 48 + k (t - 2) terms of 48
-/// in k steps: 512 for t 31 and k 16, 513 for t 33 and k 15, and t 48 is the example of the paper.
+/// in k steps: 512 for t 31 and k 16, 513 for t 33 and k 15, and t 48 is document 01's example.
 fn growing(random: &mut Random, sink: Sink) {
     for p in [2, 7, 65_521] {
         for terms in [31, 33, 48] {

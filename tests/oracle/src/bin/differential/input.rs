@@ -20,11 +20,6 @@ impl Service {
         }
     }
 
-    /// Whether the archive has this service.
-    pub fn is_served(self) -> bool {
-        self == Service::List || !cfg!(feature = "listing-only")
-    }
-
     /// Whether the service can answer with this number: 0 for success, else a refusal.
     pub fn can_answer(self, number: usize) -> bool {
         match self {
@@ -46,14 +41,4 @@ pub struct Input<'a> {
     pub out_len: usize,
     /// Slices of length 0 are handed over as NULL.
     pub null: bool,
-}
-
-/// The numbers of an answer in the order of the C structs: the last is bytes written, or membership, or 0
-/// where a struct has three fields.
-#[derive(Clone, Copy, Debug, PartialEq, Eq)]
-pub struct Numbers {
-    pub number: u64,
-    pub place: u64,
-    pub count: u64,
-    pub last: u64,
 }

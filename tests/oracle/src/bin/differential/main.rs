@@ -8,7 +8,6 @@
 mod casefile;
 mod compare;
 mod exhaustive;
-mod ffi;
 mod fixed;
 mod input;
 mod options;
@@ -41,9 +40,6 @@ struct Run {
 impl Run {
     /// Compares one input. A difference is printed and ends the program.
     fn take(&mut self, input: &Input) {
-        if !input.service.is_served() {
-            return;
-        }
         let expected = compare::expect(input);
         if let Some(cases) = &mut self.cases {
             cases.write(input, &expected).unwrap_or_else(|error| options::stop(&format!("cases: {error}")));

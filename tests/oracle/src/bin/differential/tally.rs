@@ -43,7 +43,7 @@ impl Tally {
     /// The numbers that a service can give and never gave.
     pub fn missing(&self) -> Vec<String> {
         let mut missing = Vec::new();
-        for service in SERVICES.into_iter().filter(|service| service.is_served()) {
+        for service in SERVICES {
             for number in (0..20).filter(|number| service.can_answer(*number)) {
                 if self.counts[service as usize][number] == 0 {
                     missing.push(format!("{} never answered {number}", service.name()));
