@@ -25,7 +25,7 @@ use Rattle.working.specs.Sorted.{Sorted}
 use Rattle.working.specs.Working.{terms, termAt, wordAt, formula, Holds, Working}
 use Rattle.working.proofs.Numbered.{between-length, between-at}
 use Rattle.working.proofs.Places.{sorted}
-use Rattle.working.proofs.Terms.{terms-length, terms-at}
+use Rattle.working.proofs.Terms.{terms-none, terms-length, terms-at}
 use Rattle.termadding.proofs.Inserted.{insert-equal}
 use Rattle.replacing.specs.LeadPlace.{LeadPlace}
 
@@ -62,10 +62,6 @@ module _ (coefs starts lens bytes : List ℕ) (a b : ℕ) (h : a < b) (lc : b �
               let z : a + suc j ≡ a + 1 + j = omega arith in
               rw z (sym (terms-at (polyTerm (between coefs (a + 1) b) (between starts (a + 1) b) (between lens (a + 1) b) bytes) (length (between coefs (a + 1) b)) j (single 0 []) (omega arith)
               ∙ term-is (a + 1) b j (omega arith)))
-
-terms-none : (F : ℕ → Term) (k : ℕ) → k ≡ 0 → terms F 0 k ≡ []
-unfolding terms
-terms-none F k e = rw e
 
 -- Where it is not zero, it has a term.
 pub has-term : (coefs starts lens bytes : List ℕ) (a b : ℕ) → a ≤ b → b ≤ length coefs → polyBetween coefs starts lens bytes a b ≢ [] → a < b

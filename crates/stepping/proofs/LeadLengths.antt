@@ -14,6 +14,7 @@ use Rattle.algebra.specs.Groebner.{lead}
 use Rattle.working.specs.Working.{terms}
 use Rattle.working.specs.Polynomial.{polyTerm}
 use Rattle.working.specs.Family.{between, polyBetween, familyAt, Terms, Runs}
+use Rattle.working.proofs.Terms.{terms-none}
 use Rattle.working.proofs.Numbered.{between-length, part-of, numbered}
 
 family-none : (ps : List Poly) (g : ℕ) → length ps < g → family ps g ≡ []
@@ -24,10 +25,6 @@ lead-terms : (F : ℕ → Term) (k : ℕ) → 0 < k → lead (terms F 0 k) ≡ F
 unfolding terms lead
 lead-terms F zero h = absurd (omega arith)
 lead-terms F (suc k) h = refl
-
-terms-zero : (F : ℕ → Term) (k : ℕ) → k ≡ 0 → terms F 0 k ≡ []
-unfolding terms
-terms-zero F k e = rw e
 
 module _ (coefs starts lens bytes firsts : List ℕ) where
   family-length : (j n : ℕ) → length (familyAt coefs starts lens bytes firsts j n) ≡ n
@@ -76,7 +73,7 @@ module _ (coefs starts lens bytes firsts : List ℕ) where
       where
         go : (F : ℕ → Term) (k : ℕ) {f : Poly} → Dec (0 < k) → terms F 0 k ≡ f → f ≢ [] → 0 < k
         go F k (yes z) e n = z
-        go F k (no z) e n = absurd (n (sym e ∙ terms-zero F k (omega arith)))
+        go F k (no z) e n = absurd (n (sym e ∙ terms-none F k (omega arith)))
 
         first-of : (xs : List ℕ) (x y : ℕ) → x < y → getD (between xs x y) 0 0 ≡ getD xs x 0
         first-of xs x y z = getD-take (y - x) (drop x xs) 0 0 (omega arith) ∙ getD-drop x xs 0 0 ∙ rw (add-zero x)

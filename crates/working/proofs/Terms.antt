@@ -13,6 +13,11 @@ use Rattle.working.specs.Rotation.{rotatedRight, rotatedLeft}
 use Rattle.working.proofs.RotationRight.{right-at, right-low, right-mid}
 use Rattle.working.proofs.RotationLeft.{left-low, left-mid}
 
+-- No terms.
+pub terms-none : (F : ℕ → Term) (k : ℕ) → k ≡ 0 → terms F 0 k ≡ []
+unfolding terms
+terms-none F k e = rw e
+
 module _ (F : ℕ → Term) where
   pub terms-length : (i k : ℕ) → length (terms F i k) ≡ k
   unfolding terms
