@@ -1,8 +1,8 @@
 // Bounds of coefficients and words, and the order of words.
 
 use text::bytes::all_within;
+use wordorder::order::compare;
 use words::Comparison;
-use words::order::compare;
 ghost use mathlib.Core.Path.{_≡_};
 ghost use Prim.Native.Nat.{ℕ, _≤_};
 ghost use Rattle.package.specs.Bounds.{coefFits, wordFits, isBelow};

@@ -1,7 +1,7 @@
 // vg_list_overlaps: the overlaps of a package's leading words, as the text of document 01.
 
 use crate::Listed;
-use listwriting::listing::measure;
+use listmeasuring::measuring::measure;
 use listwriting::listing::write_list;
 use package::Reading;
 use reading::read::read_package;

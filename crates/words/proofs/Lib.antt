@@ -1,5 +1,4 @@
--- What other crates cite: properties of all elements, what follows of any admissible order, the orders that are admissible, and where words stand;
--- and the laws that this crate's functions are proved by.
+-- What other crates cite: properties of all elements, what follows of any admissible order, the orders that are admissible, and where words stand.
 pub mod Every
 pub mod Admissible
 pub mod Lexicographic
@@ -7,6 +6,3 @@ pub mod WeightedOrder
 pub mod WordOrder
 pub mod Standing
 pub mod LaidWords
-pub mod Turns
-pub mod Numbers
-pub mod Blocks
