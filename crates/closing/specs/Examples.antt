@@ -18,9 +18,11 @@ pub record Case : Type 0 where
   pub count : ℕ
   pub after : List Term
 
+-- The definitions give the count and the slice of the case.
 abbrev pub Answered : Case → Type 0
 Answered c = (length (kept (take (c .n) (c .before))) ≡ c .count) × (closed (c .n) (c .before) ≡ c .after)
 
+-- The cases.
 abbrev pub cases : List Case
 cases =
     -- at the front
@@ -42,6 +44,7 @@ cases =
     ∷ record { n = 0; before = []; count = 0; after = [] }
     ∷ []
 
+-- They are all as the definitions say, by computation.
 pub cases-answered : All Answered cases
 unfolding closed
 cases-answered =

@@ -1,7 +1,7 @@
 -- What `fieldOf p` answers at elements, without a remainder where one subtraction does.
 use mathlib.Core.Path.{_≡_, refl, sym, _∙_, ap}
 use Prim.Native.Nat.{ℕ, _+_, _-_, _*_, _%_, _≤_, _<_}
-use native.Mathlib.Nat.{mod-eq-of-lt, mod-eq-sub-mod, mod-self, mod-lt}
+use native.Mathlib.Nat.{mod-eq-of-lt, mod-eq-sub-mod, mod-self, mod-lt, mul-le-mul}
 use native.Mathlib.Omega.{arith}
 use Rattle.field.specs.Field.{modular, fieldOf}
 
@@ -25,3 +25,10 @@ module _ (p a : ℕ) where
   pub product-mod : (b : ℕ) → a * b % p ≡ fieldOf p .mul a b
   unfolding fieldOf modular
   product-mod b = refl
+
+-- a product of two numbers below 65,536 fits 32 bits
+pub product-fits : (a b : ℕ) → a < 65536 → b < 65536 → a * b < 4294967296
+product-fits a b p q =
+    let x : a ≤ 65535 = omega arith in
+    let y : b ≤ 65535 = omega arith in
+    omega (arith, mul-le-mul x y)

@@ -32,10 +32,6 @@ pub record Field (K : Operations) : Type 0 where
   pub mul-add : (a b c : ℕ) → K .mul a (K .add b c) ≡ K .add (K .mul a b) (K .mul a c)
   pub mul-inv : (a : ℕ) → K .red a ≢ 0 → K .mul a (K .inv a) ≡ 1
 
--- a - b
-abbrev pub minus : Operations → ℕ → ℕ → ℕ
-minus K a b = K .add a (K .neg b)
-
 -- The inverse of r modulo a prime p, for r below p: of 1 it is 1, and of a greater r it is -(p / r) times that of p % r.
 -- The first argument only bounds the recursion: p % r is below r.
 unfoldable pub inverseMod : (p : ℕ) → ℕ → ℕ → ℕ

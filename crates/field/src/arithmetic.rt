@@ -4,8 +4,9 @@
 
 ghost use mathlib.Core.Path.{_≡_};
 ghost use Prim.Native.Nat.{_≤_, _<_};
-ghost use Rattle.field.specs.Field.{fieldOf, minus};
+ghost use Rattle.field.specs.Field.{fieldOf};
 
+// a + b.
 pub fn add(p: u32, a: u32, b: u32) -> u32
     requires { ⌜ (p ≤ 65536) × (a < p) × (b < p) ⌝ }
     ensures { λ r. ⌜ (r ≡ fieldOf p .add a b) × (r < p) ⌝ }
@@ -17,6 +18,7 @@ pub fn add(p: u32, a: u32, b: u32) -> u32
     sum - p
 }
 
+// The opposite of a.
 pub fn neg(p: u32, a: u32) -> u32
     requires { ⌜ (p ≤ 65536) × (a < p) ⌝ }
     ensures { λ r. ⌜ (r ≡ fieldOf p .neg a) × (r < p) ⌝ }
@@ -27,13 +29,7 @@ pub fn neg(p: u32, a: u32) -> u32
     p - a
 }
 
-pub fn sub(p: u32, a: u32, b: u32) -> u32
-    requires { ⌜ (p ≤ 65536) × (a < p) × (b < p) ⌝ }
-    ensures { λ r. ⌜ (r ≡ minus (fieldOf p) a b) × (r < p) ⌝ }
-{
-    add(p, a, neg(p, b))
-}
-
+// a × b.
 pub fn mul(p: u32, a: u32, b: u32) -> u32
     requires { ⌜ (p ≤ 65536) × (a < p) × (b < p) ⌝ }
     ensures { λ r. ⌜ (r ≡ fieldOf p .mul a b) × (r < p) ⌝ }

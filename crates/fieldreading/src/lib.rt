@@ -1,6 +1,3 @@
-// Fields of a line, read from a place on: kinds by their rank, numbers, words.
+// Where a field of a line ends, and the laws by which fields are read. Crates kindreading, numberreading and wordreading have the readers.
 
-pub mod kind;
-pub mod number;
 pub mod space;
-pub mod word;

@@ -1,17 +1,17 @@
 // Formulas: names line `coef word`, then terms in falling order. Whatever is wrong is refusal 16 at the first line with a fault.
 
-use fieldreading::number::inner_number;
-use fieldreading::word::last_word;
 use linetests::bounds::coef_fits;
 use linetests::bounds::word_fits;
 use linetests::names::is_formula_names;
+use numberreading::number::inner_number;
 use package::FormulaRead;
 use package::Limits;
 use package::RowRead;
 use text::NumAt;
 use text::WordLen;
 use text::bytes::find;
-use words::order::is_below;
+use wordorder::order::is_below;
+use wordreading::word::last_word;
 ghost use mathlib.Core.Path.{_≡_};
 ghost use mathlib.Core.List.{List, []};
 ghost use Prim.Native.Nat.{ℕ, _+_, _-_, _<_, _≤_};

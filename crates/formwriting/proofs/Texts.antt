@@ -10,6 +10,7 @@ use lib.Dec.{ltb}
 use lib.ListN.{length, getD, set, length-append}
 use lib.Seq.{sets}
 use Rattle.algebra.specs.Poly.{Term, Poly}
+use Rattle.text.specs.Ascii.{ascii}
 use Rattle.text.specs.Number.{decimal, writeNumber}
 use Rattle.text.specs.Pieces.{joined}
 use Rattle.text.specs.Word.{writeWord}
@@ -22,7 +23,7 @@ use Rattle.shortform.specs.FormulaText.{rowsText, rowText}
 
 -- the names line, byte 10 included
 abbrev pub namesLine : List ℕ
-namesLine = 99 ∷ 111 ∷ 101 ∷ 102 ∷ 32 ∷ 119 ∷ 111 ∷ 114 ∷ 100 ∷ 10 ∷ []
+namesLine = ascii "coef word\n"
 
 text-names : (f : Poly) → writeFormula f ≡ namesLine ++ rowsText f
 unfolding writeFormula rowsText joined

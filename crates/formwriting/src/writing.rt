@@ -14,9 +14,6 @@ ghost use Rattle.working.specs.Working.{formula, Holds};
 ghost use Rattle.package.specs.Writing.{writeFormula};
 ghost use Rattle.shortform.specs.FormulaText.{rowText};
 
-// The names line, byte 10 included.
-const NAMES: [u8; 10] = [99, 111, 101, 102, 32, 119, 111, 114, 100, 10];
-
 // How many bytes the line of a term has.
 fn row_len(c: u32, v: &[u8]) -> usize
     requires { ⌜ length (now v) ≤ 72 ⌝ }
@@ -64,7 +61,7 @@ pub fn write_text(c: &[u32], l: &[u16], w: &[u8], o: &[u16], n: usize, out: &mut
     ensures { λ r. ⌜ r ≡ length (writeFormula (formula (now (c .entry)) (now (l .entry)) (now (w .entry)) (now (o .entry)) n)) ⌝ }
     ensures { λ _. ⌜ now (out .exit) ≡ sets (now (out .entry)) 0 (writeFormula (formula (now (c .entry)) (now (l .entry)) (now (w .entry)) (now (o .entry)) n)) ⌝ }
 {
-    let mut at = put_bytes(out, 0, &NAMES);
+    let mut at = put_bytes(out, 0, b"coef word\n");
     let mut k = 0;
     while k < n {
         let t = read_term(c, l, w, o, n, k);

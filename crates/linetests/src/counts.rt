@@ -1,8 +1,8 @@
 // The value line of block 1: its shape, then refusal 3 for the prime, then 4 for the other counts.
 
 use field::prime::is_prime;
-use fieldreading::number::inner_number;
-use fieldreading::number::last_number;
+use numberreading::number::inner_number;
+use numberreading::number::last_number;
 use package::Head;
 use package::HeadRead;
 use text::Num;

@@ -1,6 +1,6 @@
 // list_package: the overlaps of a package's leading words, as the text of document 01.
 
-use listwriting::listing::measure;
+use listmeasuring::measuring::measure;
 use listwriting::listing::write_list;
 use package::Reading;
 use reading::read::read_package;

@@ -13,7 +13,7 @@ use Rattle.overlaps.specs.declared.Cursor.{Cursor}
 use Rattle.overlaps.specs.Overlaps.{joined}
 use Rattle.overlaps.specs.Position.{overlapOf}
 use Rattle.overlaps.specs.Listing.{spaced, lineOf}
-use Rattle.listwriting.proofs.Lines.{spaced-length, line-parts}
+use Rattle.listmeasuring.proofs.Lines.{spaced-length, line-parts}
 
 -- two runs of stores, one behind the other
 stored-then : (l l₁ l₂ : List ℕ) (at a : ℕ) (xs ys : List ℕ) → l₁ ≡ sets l at xs → a ≡ at + length xs → l₂ ≡ sets l₁ a ys → l₂ ≡ sets l at (xs ++ ys)

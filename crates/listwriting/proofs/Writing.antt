@@ -12,7 +12,7 @@ use Rattle.overlaps.specs.declared.Cursor.{Cursor}
 use Rattle.overlaps.specs.Position.{overlapsAt, overlapOf, behind, origin, ordinal, Short}
 use Rattle.overlaps.specs.Listing.{wordOf, lineOf, overlapLines, allLines}
 use Rattle.overlaps.proofs.Positions.{at-origin}
-use Rattle.listwriting.proofs.Walking.{Walking, Step, walking-start}
+use Rattle.listmeasuring.proofs.Walking.{Walking, Step, walking-start}
 
 pub record Writing (starts lens bytes : List ℕ) (n : ℕ) (out₀ : List ℕ) (at : ℕ) (out : List ℕ) (place : ℕ) (from : Cursor) (k : ℕ) : Type 0 where
   pub walking : Walking starts lens bytes n from

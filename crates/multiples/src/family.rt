@@ -13,7 +13,8 @@ ghost use Rattle.working.specs.Working.{formula, Working};
 ghost use Rattle.working.specs.Family.{familyAt, Terms, Runs};
 
 // Adds x × left × polynomial × right, where the polynomial is number `of`, counted from 1, of count polynomials that lie one after the other:
-// number 1 starts where entry base of firsts says, and m terms are well formed. Left and right are given as in `add_multiple`.
+// number 1 starts where entry base of firsts says, and m terms are well formed. Left and right are given as in `add_multiple`; buf is scratch
+// as there.
 pub fn add_numbered(
     p: u32,
     x: u32,

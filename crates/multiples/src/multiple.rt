@@ -16,7 +16,7 @@ ghost use Rattle.working.specs.Polynomial.{polyAt, Given};
 // Adds x × left × polynomial × right to the formula of n terms; the answer is how many terms it then has. Left is the a letters of a slice
 // from the letter lfrom on, right the b letters of another from rfrom on.
 // The polynomial lies in a package: coefficients gc, and words of gl letters from gs on in bytes.
-// The last slice has room for one word, which is built there.
+// buf is scratch: each product is built there.
 pub fn add_multiple(
     p: u32,
     x: u32,

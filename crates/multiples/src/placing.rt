@@ -12,6 +12,7 @@ ghost use Rattle.working.specs.Polynomial.{polyAt, Given};
 ghost use Rattle.working.specs.Family.{familyAt, Terms, Runs};
 
 // Whatever the arrays hold, they then hold left × polynomial × right, given as in `add_multiple`; the answer is how many terms that are.
+// buf is scratch: each product is built there.
 pub fn place_product(
     p: u32,
     left: &[u8],
@@ -52,6 +53,7 @@ pub fn place_product(
 }
 
 // Whatever the arrays hold, they then hold left × polynomial × right, where the polynomial is given by its number as in `add_numbered`.
+// buf is scratch, as in `place_product`.
 pub fn place_numbered(
     p: u32,
     left: &[u8],

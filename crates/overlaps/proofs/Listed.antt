@@ -154,6 +154,15 @@ record FromFirst (all us : List Word) (i : ℕ) (o : Overlap) : Type 0 where
   overlapping : Overlapping (getD us index []) (getD all other []) (o .shared)
 
 module _ (all : List Word) where
+  first-complete : (us : List Word) (i m k n : ℕ) → Overlapping (getD us m []) (getD all k []) n
+      → List·Memᴰ (at (i + m) (1 + k) n) (fromFirst all us i)
+  unfolding fromFirst
+  first-complete [] i m k n h = let c = h .first in absurd (omega arith)
+  first-complete (u ∷ us) i zero k n h = Memᴰ·append-left {s = withFirst u i all 1} (fromFirst all us (suc i)) (rw (add-zero i) (with-complete u i all 1 k n h))
+  first-complete (u ∷ us) i (suc m) k n h =
+      let e : i + suc m ≡ suc i + m = omega arith in
+      Memᴰ·append-right (withFirst u i all 1) (rw e (first-complete us (suc i) m k n h))
+
   first-sound : (us : List Word) (i : ℕ) → All (FromFirst all us i) (fromFirst all us i)
   unfolding fromFirst
   first-sound [] i = done
@@ -164,15 +173,6 @@ module _ (all : List Word) where
 
       later : (o : Overlap) → FromFirst all us (suc i) o → FromFirst all (u ∷ us) i o
       later o h = let p = h .first in record { index = suc (h .index); other = h .other; first = omega arith; second = h .second; overlapping = h .overlapping }
-
-  first-complete : (us : List Word) (i m k n : ℕ) → Overlapping (getD us m []) (getD all k []) n
-      → List·Memᴰ (at (i + m) (1 + k) n) (fromFirst all us i)
-  unfolding fromFirst
-  first-complete [] i m k n h = let c = h .first in absurd (omega arith)
-  first-complete (u ∷ us) i zero k n h = Memᴰ·append-left {s = withFirst u i all 1} (fromFirst all us (suc i)) (rw (add-zero i) (with-complete u i all 1 k n h))
-  first-complete (u ∷ us) i (suc m) k n h =
-      let e : i + suc m ≡ suc i + m = omega arith in
-      Memᴰ·append-right (withFirst u i all 1) (rw e (first-complete us (suc i) m k n h))
 
   first-rising : (us : List Word) (i : ℕ) → Rising (fromFirst all us i)
   unfolding fromFirst

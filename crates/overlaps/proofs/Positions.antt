@@ -14,7 +14,7 @@ use Rattle.words.specs.declared.Found.{Found}
 use Rattle.words.specs.declared.Found.the-variants.{At, Nowhere}
 use Rattle.words.specs.Word.{Word}
 use Rattle.words.specs.Place.{begins, standsAt}
-use Rattle.words.proofs.Turns.{stands-inside}
+use Rattle.wordplaces.proofs.PlaceTurns.{stands-inside}
 use Rattle.lists.specs.Same.{same}
 use Rattle.overlaps.specs.declared.Cursor.{Cursor}
 use Rattle.overlaps.specs.Overlaps.{Overlap, shares, overlapsFrom, overlapsOf, withFirst, fromFirst, overlaps}

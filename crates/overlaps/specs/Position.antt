@@ -82,6 +82,7 @@ pub record FoundAt (lens : List ℕ) (n : ℕ) (from c : Cursor) : Type 0 where
   pub below-second : c .shared < getD lens (c .second) 0
   pub later : ordinal from ≤ ordinal c
 
+-- What is found, if anything is, is an overlap no earlier than a place.
 unfoldable pub Ahead : List ℕ → ℕ → Cursor → Next → Type 0
 Ahead lens n from Done = Unit {0}
 Ahead lens n from (Overlap c) = FoundAt lens n from c

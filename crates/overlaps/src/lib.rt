@@ -1,4 +1,4 @@
-// Overlaps of leading words (document 01, 'Overlaps'): each one found behind the last, in the order of the list, and the list's bytes.
+// Overlaps of leading words (document 01, 'Overlaps'): each one found behind the last, in the order of the list.
 // The leading words lie in the package's bytes: word g, from 0, is the lens[g] bytes from starts[g] on.
 
 pub mod finding;
@@ -15,10 +15,4 @@ pub struct Cursor {
 pub enum Next {
     Overlap(Cursor),
     Done,
-}
-
-// How many overlaps there are, and how many bytes their list has.
-pub struct Measure {
-    pub count: usize,
-    pub bytes: usize,
 }

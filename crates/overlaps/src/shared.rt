@@ -12,7 +12,7 @@ pub fn is_shared(u: &[u8], v: &[u8], n: usize) -> bool
     ensures { λ r. ⌜ r ≡ shares (now (u .entry)) (now (v .entry)) n ⌝ }
 {
     let at = u.len() - n;
-    words::place::stands_at(&v[0..n], u, at)
+    wordplaces::place::stands_at(&v[0..n], u, at)
 }
 
 // The lesser of two lengths.

@@ -5,7 +5,7 @@ use field::arithmetic::neg;
 use multiples::family::add_numbered;
 use multiples::placing::place_numbered;
 use sumlines::SumAt;
-use words::order::is_below;
+use wordorder::order::is_below;
 use working::letters::compose;
 ghost use mathlib.Core.Path.{_≡_};
 ghost use Prim.Native.Nat.{_+_, _≤_};

@@ -18,7 +18,7 @@ ghost use Rattle.working.specs.Family.{familyAt, Terms, Runs};
 ghost use Rattle.replacing.specs.LeadPlace.{LeadPlace};
 
 // Adds x × left × polynomial × right, as `add_numbered` does, where term k has the word left × leading word × right: the leading term is
-// added to that term without a search.
+// added to that term without a search. buf is scratch: each product is built there.
 pub fn add_onto_term(
     p: u32,
     x: u32,

@@ -16,6 +16,7 @@ ghost use Rattle.shortform.specs.Basis.{Basis, LeadsOf, ShortWords};
 ghost use Rattle.shortform.specs.Outcome.{seenRan, HeldAfter};
 
 // Brings the formula of n terms to its short form. Each search goes on at the term of the last step: that step changed no term before it.
+// lbuf, rbuf and buf are scratch, as in `step`.
 pub fn run(
     p: u32,
     budget: u32,

@@ -12,7 +12,7 @@ ghost use Rattle.working.specs.Working.{formula, Room, Working};
 ghost use Rattle.working.specs.Polynomial.{polyAt, Given};
 
 // The formula lies in bytes: coefficients fc, and words of fl letters from fs on. The answer is how many terms it has.
-// The last slice has room for one word, which is built there.
+// buf is scratch: each word is built there.
 pub fn load(
     p: u32,
     fc: &[u32],

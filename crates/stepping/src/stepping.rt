@@ -16,7 +16,7 @@ ghost use Rattle.working.specs.Family.{familyAt};
 ghost use Rattle.shortform.specs.Basis.{Basis, ShortWords};
 ghost use Rattle.shortform.specs.Search.{termOf};
 
-// Copies the letters from a on, before b, to the front of buf; the answer is how many they are.
+// Copies the letters from a on, before b, to the front of buf; the answer is how many they are. buf is scratch behind them.
 pub fn copy_part(buf: &mut [u8], w: &[u8], a: usize, b: usize) -> usize
     requires { ⌜ (a ≤ b) × (b ≤ length (now w)) × (b - a ≤ 24) × (24 ≤ length (now buf)) ⌝ }
     ensures { λ r. ⌜ r ≡ b - a ⌝ }
@@ -39,6 +39,7 @@ pub fn lead_len(lens: &[usize], firsts: &[usize], base: usize, of: usize) -> usi
 
 // The step at term k, where the leading word of polynomial `of` stands at place i; the answer is how many terms there then are.
 // Left and right are copied first, since their letters lie where the sum is made. The polynomial's leading term meets term k.
+// lbuf, rbuf and buf are scratch: left, right and one product are built there.
 pub fn step(
     p: u32,
     coefs: &[u32],

@@ -1,7 +1,7 @@
 // Refusal 9: a leading word that holds another's.
 
+use wordplaces::place::leftmost_place;
 use words::Found;
-use words::place::leftmost_place;
 ghost use mathlib.Core.Path.{_≡_};
 ghost use Prim.Native.Nat.{_+_, _<_};
 ghost use Rattle.words.specs.Laid.{laidWord, laidWords, Laid};

@@ -1,11 +1,10 @@
 // Block 3: sum lines, with refusals 2, 5 and 6 in each.
 
 use crate::line_end::line_word;
-use fieldreading::kind::inner_rank;
-use fieldreading::number::inner_number;
-use fieldreading::word::inner_word;
+use kindreading::kind::inner_rank;
 use linetests::bounds::coef_fits;
 use linetests::bounds::word_fits;
+use numberreading::number::inner_number;
 use package::Head;
 use package::Limits;
 use package::SumJudged;
@@ -14,6 +13,7 @@ use package::Sums;
 use text::NumAt;
 use text::WordAt;
 use text::bytes::is_within;
+use wordreading::word::inner_word;
 ghost use mathlib.Core.Path.{_≡_};
 ghost use Prim.Native.Nat.{ℕ, _+_, _≤_, _<_};
 ghost use lib.ListN.{length, drop};

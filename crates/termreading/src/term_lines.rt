@@ -1,11 +1,10 @@
 // Block 2: term lines, with refusals 2, 5, 6 and 7 in each; the terms are stored in lent slices, words as places in the package's bytes.
 
-use fieldreading::kind::inner_rank;
-use fieldreading::number::inner_number;
-use fieldreading::word::last_word;
+use kindreading::kind::inner_rank;
 use linetests::bounds::coef_fits;
 use linetests::bounds::word_fits;
 use linetests::names::is_sum_names;
+use numberreading::number::inner_number;
 use package::Ended;
 use package::Head;
 use package::Last;
@@ -16,7 +15,8 @@ use text::NumAt;
 use text::WordLen;
 use text::bytes::find;
 use text::bytes::is_within;
-use words::order::is_below;
+use wordorder::order::is_below;
+use wordreading::word::last_word;
 ghost use mathlib.Core.Path.{_≡_};
 ghost use mathlib.Core.List.{List, []};
 ghost use Prim.Native.Nat.{ℕ, _+_, _-_, _<_, _≤_};

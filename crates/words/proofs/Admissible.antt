@@ -30,16 +30,9 @@ module _ {O : Order} (A : Admissible O) where
   pub lt-ne : (u v : Word) → Lt O u v → u ≢ v
   lt-ne u v p e = lt-irrefl v (rw e at p)
 
-  pub lt-asymm : (u v : Word) → Lt O u v → Lt O v u → ⊥
-  lt-asymm u v p q = lt-irrefl u (A .trans u v u p q)
-
   pub lt-of-above : (u v : Word) → O u v ≡ Above → Lt O v u
   unfolding opposite
   lt-of-above u v e = A .flip u v ∙ rw e
-
-  pub above-of-lt : (u v : Word) → Lt O v u → O u v ≡ Above
-  unfolding opposite
-  above-of-lt u v e = A .flip v u ∙ rw e
 
   pub equal-of-eq : (u v : Word) → u ≡ v → O u v ≡ Equal
   equal-of-eq u v e = rw e (order-refl v)

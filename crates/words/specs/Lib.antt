@@ -2,6 +2,5 @@ pub mod Word
 pub mod Order
 pub mod Below
 pub mod Weighted
-pub mod Block
 pub mod Place
 pub mod Laid

@@ -19,6 +19,7 @@ Order = Word → Word → Comparison
 abbrev pub Lt : Order → Word → Word → Type 0
 Lt O u v = O u v ≡ Below
 
+-- How the second word stands to the first, where the first stands so to the second.
 unfoldable pub opposite : Comparison → Comparison
 opposite Below = Above
 opposite Equal = Equal
@@ -33,14 +34,15 @@ pub record Admissible (O : Order) : Type 0 where
   pub right : (r u v : Word) → Lt O u v → Lt O (u ++ r) (v ++ r)
   pub wf : (w : Word) → Acc (Lt O) w
 
--- Document 01's order, in its words: the longer word is greater; at equal length the first differing letter decides, and a is greater than b, b than c.
--- So at the first place where the letters differ, that of the lower word comes later in the alphabet.
+-- At the first place where the letters of u and v differ, that of u comes later in the alphabet.
 pub record FirstDiffers (u v : Word) : Type 0 where
   pub place : ℕ
   pub inside : place < length u
   pub before : (i : ℕ) → i < place → getD u i 0 ≡ getD v i 0
   pub later : getD v place 0 < getD u place 0
 
+-- u is below v in document 01's order, in its words: the longer word is greater; at equal length the first differing letter decides, and a is
+-- greater than b, b than c.
 abbrev pub IsBelow : Word → Word → Type 0
 IsBelow u v = (length u < length v) ⊎ ((length u ≡ length v) × FirstDiffers u v)
 

@@ -20,6 +20,7 @@ unfoldable pub weight : (ℕ → ℕ) → Word → ℕ
 weight weigh [] = 0
 weight weigh (a ∷ w) = weigh a + weight weigh w
 
+-- The order by weight.
 unfoldable pub weightedOrder : Weighing → Order
 unfolding weight byNumber byLetters
 weightedOrder W u v = byNumber (weight (W .weigh) u) (weight (W .weigh) v) (byLetters (W .rank) u v)

@@ -1,8 +1,5 @@
-// Words: their order, and where one stands in another. The only functions that look at letters.
+// Words: their orders, and where one stands in another, as definitions and laws. Crates wordorder and wordplaces have the functions.
 // A word is a slice of its letters, the bytes `a` to `z`; the empty word has none.
-
-pub mod order;
-pub mod place;
 
 // How one word stands to another in an order of the words.
 pub enum Comparison {

@@ -70,11 +70,6 @@ holds-none o e c l w r = record {
   short = λ i h. absurd (omega arith);
 }
 
--- no term is the zero polynomial, which is in written form
-pub working-none : (p : ℕ) (c l w o : List ℕ) → Holds c l w o 0 → Working p c l w o 0
-unfolding terms
-working-none p c l w o h = record { holds = h; written = W.zero }
-
 -- entries moved about, by a move that can be undone
 module _ (c l w o o' : List ℕ) (n : ℕ) (σ τ : ℕ → ℕ) (undo : (j : ℕ) → τ (σ j) ≡ j)
     (all : (j : ℕ) → j < length o → σ j < length o) (first : (j : ℕ) → j < n → σ j < n) (mv : Moved σ o o') where

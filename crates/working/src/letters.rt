@@ -44,6 +44,7 @@ pub fn copy_block(dst: &mut [u8], at: usize, src: &[u8], from: usize)
 }
 
 // Writes the n letters of src from the letter `from` on to dst, from the letter at on, and changes nothing before them.
+// dst is scratch behind them.
 pub fn put_word(dst: &mut [u8], at: usize, src: &[u8], from: usize, n: usize)
     requires { ⌜ (n ≤ 24) × (from + n ≤ length (now src)) × (at + 24 ≤ length (now dst)) ⌝ }
     ensures { λ _. ⌜ take (at + n) (now (dst .exit)) ≡ take at (now (dst .entry)) ++ take n (drop from (now (src .entry))) ⌝ }
@@ -59,7 +60,7 @@ pub fn put_word(dst: &mut [u8], at: usize, src: &[u8], from: usize, n: usize)
 }
 
 // Writes left × word × right to the front of dst; each of the three is so many letters of a slice, from a letter on. The answer is how many
-// letters they have together.
+// letters they have together. dst is scratch behind them.
 pub fn compose(
     dst: &mut [u8],
     left: &[u8],

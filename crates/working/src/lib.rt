@@ -2,7 +2,8 @@
 // Coefficients `c` and lengths `l` have one entry for each place, the letters `w` 72, and `o` says which
 // place each term has: its first n entries are the terms, the greatest word first, and the others are the
 // free places. A term is put in or dropped by moving one entry of `o`, and with it those between; letters stay
-// where they are. Lengths and entries have 16 bits, so that few bytes are moved.
+// where they are. Free places are scratch: whatever they hold, the formula is the same. Lengths and entries have 16 bits, so that few bytes
+// are moved.
 // Here are the parts of that; a term is added in crate termadding, a multiple in crate multiples.
 
 pub mod entries;

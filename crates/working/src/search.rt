@@ -1,8 +1,8 @@
 // Where a word belongs among the words of the formula.
 
 use crate::Position;
+use wordorder::order::compare_level;
 use words::Comparison;
-use words::order::compare_level;
 ghost use mathlib.Core.Path.{_≡_};
 ghost use Prim.Native.Nat.{_≤_};
 ghost use lib.ListN.{length, take};

@@ -52,8 +52,7 @@ slice-write-out-2 c =
     let e = a .put-number .ensures .0 in
     let k = a .put-number .kept .0 in
     let f = d .put-word .ensures .0 in
-    let n = d .put-word .kept .0 in
-    let s = length-set (a .put-number .last .0) (a .put-number .result) 32 in
+    let n = rw length-set at (d .put-word .kept .0) in
     omega arith
 
 add-result : tie.Need-add-result
@@ -73,10 +72,8 @@ same-length c =
     let d = c .before .before in
     let a = d .before .before .before .before in
     let k = a .put-number .kept .0 in
-    let n = d .put-word .kept .0 in
-    let s = length-set (a .put-number .last .0) (a .put-number .result) 32 in
-    let y = length-set (d .put-word .last .0) (d .put-word .result) 10 in
-    omega arith
+    let n = rw length-set at (d .put-word .kept .0) in
+    rw length-set (omega arith)
 
 returns : tie.Need-returns
 returns c =

@@ -1,7 +1,7 @@
 -- `put_overlap`: the line of two of the leading words, which lie inside the bytes.
 use native.Mathlib.Omega.{arith}
 use Rattle.lists.proofs.Parts.{part-end}
-use Rattle.listwriting.proofs.Walking.{found-word, found-asked}
+use Rattle.listmeasuring.proofs.Walking.{found-word, found-asked}
 use borrow.Author.Needs.{needs}
 use Rattle.listwriting.proofs.listing.put_overlap.Statement.{statement}
 use Rattle.listwriting.proofs.listing.put_overlap.Tie as tie

@@ -1,7 +1,7 @@
 -- `put_spaced`: a number, and a space behind it.
 use native.Mathlib.Omega.{arith}
 use mathlib.Core.List.{[]}
-use Rattle.listwriting.proofs.Lines.{spaced-length}
+use Rattle.listmeasuring.proofs.Lines.{spaced-length}
 use Rattle.listwriting.proofs.LineStores.{spaced-stored}
 use borrow.Author.Needs.{needs}
 use Rattle.listwriting.proofs.listing.put_spaced.Statement.{statement}

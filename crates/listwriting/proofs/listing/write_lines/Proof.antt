@@ -2,7 +2,7 @@
 use Prim.Native.Nat.{_-_}
 use native.Mathlib.Omega.{arith}
 use Rattle.overlaps.specs.Position.{ordinal}
-use Rattle.listwriting.proofs.Walking.{none-left, step}
+use Rattle.listmeasuring.proofs.Walking.{none-left, step}
 use Rattle.listwriting.proofs.Writing.{Writing, writing-start, number-few, line-fits, writing-next, writing-end}
 use borrow.Author.Needs.{needs}
 use Rattle.listwriting.proofs.listing.write_lines.Statement.{statement}

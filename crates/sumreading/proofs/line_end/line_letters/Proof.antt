@@ -9,7 +9,8 @@ use Rattle.text.specs.Answers.{nextWord, spanWord}
 use Rattle.text.specs.Bytes.{allWithin}
 use Rattle.text.specs.Pieces.{stop}
 use Rattle.package.specs.Held.{seenLineWord}
-use Rattle.fieldreading.proofs.Fronts.{front, letters-last, letters-ended, letters-none, letters-broken, letters-more}
+use Rattle.fieldreading.proofs.Fronts.{front}
+use Rattle.wordreading.proofs.WordFronts.{letters-last, letters-ended, letters-none, letters-broken, letters-more}
 use Rattle.sumreading.proofs.line_end.line_letters.Statement.{statement}
 use Rattle.sumreading.proofs.line_end.line_letters.Tie as tie
 

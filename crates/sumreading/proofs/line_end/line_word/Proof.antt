@@ -9,7 +9,8 @@ use Rattle.text.proofs.Cutting.{stop-end}
 use Rattle.text.specs.Answers.{nextWord, spanWord}
 use Rattle.package.specs.Held.{seenLineWord}
 use Rattle.fieldreading.proofs.FieldReading.{word-end}
-use Rattle.fieldreading.proofs.Fronts.{byte-inside, dash-alone, dash-more}
+use Rattle.fieldreading.proofs.Fronts.{byte-inside}
+use Rattle.wordreading.proofs.WordFronts.{dash-alone, dash-more}
 use Rattle.sumreading.proofs.line_end.line_word.Statement.{statement}
 use Rattle.sumreading.proofs.line_end.line_word.Tie as tie
 

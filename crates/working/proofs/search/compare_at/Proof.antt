@@ -5,7 +5,7 @@ use Prim.Native.Nat.{ℕ, _*_, _≤_}
 use native.Mathlib.Omega.{arith}
 use lib.ListN.{length, getD, take}
 use lib.Seq.{length-take-le}
-use Rattle.words.proofs.Turns.{order-shorter, order-longer}
+use Rattle.wordorder.proofs.OrderTurns.{order-shorter, order-longer}
 use Rattle.working.specs.Working.{wordAt}
 use Rattle.working.specs.Sorted.{Place}
 use Rattle.lists.proofs.Parts.{part-length}

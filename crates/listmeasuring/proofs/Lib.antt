@@ -1,0 +1,4 @@
+pub mod Lines
+pub mod DigitCount
+pub mod Walking
+pub mod Counting

@@ -1,0 +1,3 @@
+// Numbers read as fields of a line, from a place on.
+
+pub mod number;

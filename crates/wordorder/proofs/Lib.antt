@@ -1,0 +1,3 @@
+pub mod OrderTurns
+pub mod Numbers
+pub mod Blocks

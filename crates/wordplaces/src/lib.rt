@@ -1,0 +1,3 @@
+// Where a word stands in another.
+
+pub mod place;

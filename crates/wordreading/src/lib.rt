@@ -1,0 +1,3 @@
+// Words read as fields of a line, from a place on.
+
+pub mod word;
