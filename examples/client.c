@@ -5,7 +5,7 @@
 
 #include "vaultgarlic.h"
 
-/* A file's bytes, one more than a package may have at most. */
+/* Reads a file, up to room bytes of it, and returns how many were read. */
 static size_t read_file(const char *name, uint8_t *bytes, size_t room)
 {
     FILE *f = fopen(name, "rb");
@@ -20,7 +20,9 @@ static size_t read_file(const char *name, uint8_t *bytes, size_t room)
 
 int main(int argc, char **argv)
 {
-    static uint8_t package[65537], formula[65536], out[65536]; /* a short form has at most 512 lines of at most 32 bytes */
+    /* A package has at most 65,536 bytes; one more is read, so that a longer file is refused and not cut off. A formula that reads
+     * has at most 1,498 bytes, and a short form at most 15,882. */
+    static uint8_t package[65537], formula[65536], out[15882];
     if (argc != 3)
         return 2;
     size_t np = read_file(argv[1], package, sizeof package);

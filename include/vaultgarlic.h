@@ -71,7 +71,7 @@ vg_checked vg_check(const uint8_t *package, size_t package_len);
 vg_listed vg_list_overlaps(const uint8_t *package, size_t package_len, uint8_t *out, size_t out_len);
 
 /* Writes the formula's short form under the package to out, in at most budget steps. Judges 1 to 15, then 16 to 19.
- * Two formulas get the same bytes exactly if they are equal modulo the package's relations. */
+ * Two formulas that both get a short form get the same bytes exactly if they are equal modulo the package's relations. */
 vg_shortened vg_short_form(const uint8_t *package, size_t package_len, const uint8_t *formula, size_t formula_len,
                            uint32_t budget, uint8_t *out, size_t out_len);
 
