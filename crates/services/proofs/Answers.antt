@@ -5,8 +5,7 @@ use mathlib.Core.List.{List, [], _∷_}
 use Prim.Native.Nat.{ℕ, zero, suc, _+_, _≤_, _<_}
 use native.Mathlib.Omega.{arith}
 use lib.Dec.{ltb}
-use lib.ListN.{length, take, drop}
-use lib.Seq.{sets, sets-eq, take-at}
+use lib.ListN.{length, take}
 use borrow.Author.Tests.{ltb-false}
 use Rattle.field.specs.Field.{fieldOf}
 use Rattle.words.specs.Order.{wordOrder}
@@ -20,12 +19,9 @@ use Rattle.acceptance.specs.Check.{Verdict, refusal, fine, checked}
 use Rattle.acceptance.specs.Acceptance.{judgedBy, acceptance}
 use Rattle.acceptance.specs.Reduction.{formulaLimits, Reduction, refusedBy, shortForm, reductionOf, formulaReduced, packageReduced, reduction}
 use Rattle.services.specs.Services.{checkAnswer, checkedAs, fitted, shortAnswer, shortenedAs, shortOutput, shortenedInto, memberAnswer, membershipAs}
-use Rattle.services.proofs.RefusalNumbers.{Numbered, read-number}
+use Rattle.services.specs.Demands.{Between}
 use Rattle.services.proofs.VerdictNumbers.{Judged, check-number}
-
--- Bytes written from the start are the first ones.
-stored : (w v : List ℕ) → length v ≤ length w → take (length v) (sets w 0 v) ≡ v
-stored w v h = ap (take (length v)) (sets-eq v w 0 (omega arith)) ∙ take-at v (drop (0 + length v) w) (length v) refl
+use Rattle.services.proofs.OutputStart.{stored}
 
 -- The check refuses nothing exactly where the package reads and no refusal of 8 to 15 is met.
 pub accepted-is : (bytes : List ℕ) (P : Package) → readPackage bytes ≡ read P → checked P ≡ fine → acceptance bytes ≡ read P
@@ -36,8 +32,10 @@ pub answered-fine : (bytes : List ℕ) (P : Package) → readPackage bytes ≡ r
 unfolding checkedAs acceptance Judged checkAnswer judgedBy
 answered-fine bytes P e n = go (checked P) refl (check-number P) (rw e at n)
   where
-    go : (v : Verdict) → checked P ≡ v → Judged (checked P) → checkAnswer (judgedBy checked (read P)) .number ≡ 0 → checked P ≡ fine
-    go (refusal r k) q j z = absurd ((rw q at j) (rw (judgedBy, q) at z))
+    go : (v : Verdict) → checked P ≡ v → Judged (Between 8 15) (checked P) → checkAnswer (judgedBy checked (read P)) .number ≡ 0 → checked P ≡ fine
+    go (refusal r k) q j z =
+        let b : Between 8 15 r = rw q at j in
+        let e : r ≡ 0 = rw (judgedBy, q) at z in absurd (omega (arith, b .0))
     go fine q j z = q
 
 module _ (bytes : List ℕ) (P : Package) (acc : acceptance bytes ≡ read P) (text : List ℕ) (f : Poly)

@@ -1,11 +1,10 @@
 -- How a row of the tables of examples follows from what is computed for it.
 use mathlib.Core.Path.{_≡_, refl, sym, _∙_, ap}
-use mathlib.Core.List.{List, [], _++_}
+use mathlib.Core.List.{List, []}
 use Prim.Native.Nat.{ℕ, _≤_, _<_}
 use native.Mathlib.Nat.{zero-add}
 use native.Mathlib.Omega.{arith}
-use lib.ListN.{length, drop}
-use lib.Seq.{sets-eq}
+use lib.ListN.{length}
 use borrow.Author.Tests.{lt-ltb, le-ltb}
 use Rattle.field.specs.Field.{fieldOf}
 use Rattle.words.specs.declared.Comparison.the-variants.{Above}
@@ -22,14 +21,11 @@ use Rattle.overlaps.specs.Listing.{overlapText}
 use Rattle.acceptance.specs.Content.{basis}
 use Rattle.acceptance.specs.Acceptance.{acceptance}
 use Rattle.acceptance.specs.Reduction.{formulaLimits, Reduction, refusedBy, shortForm, reductionOf, formulaReduced, packageReduced, reduction}
-use Rattle.services.specs.Services.{listable, checkAnswer, checkedAs, fitted, listAnswer, listedAs, listOutput, listedInto, shortAnswer, shortenedAs, shortOutput, shortenedInto, memberAnswer, membershipAs}
-use Rattle.services.specs.Examples.{atStart, refusal, Shortens, IsAbove, Lists, Accepts, IsMember, Refuses}
+use Rattle.services.specs.Services.{listable, checkAnswer, checkedAs, listAnswer, listedAs, listOutput, listedInto, shortAnswer, shortenedAs, shortOutput, shortenedInto, memberAnswer, membershipAs}
+use Rattle.services.specs.Examples.{refusal, Shortens, IsAbove, Lists, Accepts, IsMember, Refuses}
 use Rattle.services.proofs.Budgets.{run-more, run-fewer}
-use Rattle.services.proofs.Room.{no-room, no-room-kept, room-listed, room-written}
-
--- Bytes that fit stand at the slice's start.
-fitted-start : (text out : List ℕ) → length text ≤ length out → fitted text out ≡ atStart text out
-fitted-start text out h = room-written text out h ∙ sets-eq text out 0 (omega arith) ∙ ap (λ (n : ℕ). text ++ drop n out) (zero-add (length text))
+use Rattle.services.proofs.Room.{no-room, no-room-kept, room-listed}
+use Rattle.services.proofs.OutputStart.{fitted-start}
 
 -- A short form after m steps comes of a run that took them.
 ran : (N : Poly) (m : ℕ) (e : Ended) → reductionOf m e ≡ shortForm N m → e ≡ answer N m
@@ -67,7 +63,7 @@ module _ (bytes : List ℕ) (P : Package) (acc : acceptance bytes ≡ read P) (t
   reduced-less budget h = ap (packageReduced text budget) acc ∙ less P N m (readFormula (P .head .p) (P .head .letters) formulaLimits text) computed budget h
 
 -- A short form's answer, with room and without.
-with-room : (N : Poly) (m room : ℕ) → length (writeFormula N) ≤ room
+pub with-room : (N : Poly) (m room : ℕ) → length (writeFormula N) ≤ room
     → shortAnswer room (shortForm N m) ≡ record { number = 0; place = 0; steps = m; written = length (writeFormula N) }
 unfolding shortAnswer
 with-room N m room l = rw (shortAnswer, le-ltb room (length (writeFormula N)) l)

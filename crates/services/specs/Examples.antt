@@ -1,10 +1,10 @@
 -- Document 01's examples as rows of tables: what the services answer on these bytes, and which of two words is greater.
 -- That every row holds is proved in proofs/Examples.antt: `examples-hold` and `edges-hold`.
 use mathlib.Core.Path.{_≡_}
-use mathlib.Core.List.{List, [], _∷_, _++_}
+use mathlib.Core.List.{List, [], _∷_}
 use Prim.Native.Nat.{ℕ, _≤_, _<_}
 use Prim.Native.String.{String}
-use lib.ListN.{length, drop}
+use lib.ListN.{length}
 use Rattle.words.specs.declared.Comparison.the-variants.{Above}
 use Rattle.words.specs.Word.{Word}
 use Rattle.words.specs.Order.{wordOrder}
@@ -15,7 +15,7 @@ use Rattle.package.specs.Package.{Package}
 use Rattle.package.specs.Examples.{text, packageE}
 use Rattle.services.specs.declared.Shortened.{Shortened}
 use Rattle.services.specs.Services.{checkedAs, listedAs, listedInto, shortenedAs, shortenedInto, membershipAs}
-use Rattle.services.specs.Demands.{AcceptedAs, ReadAs}
+use Rattle.services.specs.Demands.{AcceptedAs, ReadAs, atStart}
 
 -- A row: the bytes of a package, and texts quoted byte for byte.
 pub data Row : Type 0 where
@@ -35,10 +35,6 @@ pub data Row : Type 0 where
   keeping : List ℕ → Row
   -- under the package every formula comes to zero
   emptying : List ℕ → Row
-
--- A text at the start of an output slice; the bytes after it keep their old values.
-abbrev pub atStart : List ℕ → List ℕ → List ℕ
-atStart t out = t ++ drop (length t) out
 
 -- A refusal of the short form service.
 abbrev pub refusal : ℕ → ℕ → Shortened
