@@ -1,8 +1,8 @@
 -- What a service's answer with number 0 comes from: a package that reads and is accepted, a formula that reads, and a run that ended.
-use mathlib.Core.Path.{_≡_, refl, sym, _∙_, ap}
+use mathlib.Core.Path.{_≡_, refl, _∙_, ap}
 use mathlib.Core.Bool.{Bool, true, false}
-use mathlib.Core.List.{List, [], _∷_}
-use Prim.Native.Nat.{ℕ, zero, suc, _+_, _≤_, _<_}
+use mathlib.Core.List.{List}
+use Prim.Native.Nat.{ℕ}
 use native.Mathlib.Omega.{arith}
 use lib.Dec.{ltb}
 use lib.ListN.{length, take}
@@ -11,15 +11,15 @@ use Rattle.field.specs.Field.{fieldOf}
 use Rattle.words.specs.Order.{wordOrder}
 use Rattle.algebra.specs.Poly.{Poly}
 use Rattle.algebra.specs.Steps.{Ended, answer, over, spent, run}
-use Rattle.package.specs.Formula.{FormulaOutcome, wrongAt, formula, readFormula}
-use Rattle.package.specs.Package.{Package, Outcome, refused, read, readPackage}
+use Rattle.package.specs.Formula.{formula, readFormula}
+use Rattle.package.specs.Package.{Package, read, readPackage}
 use Rattle.package.specs.Writing.{writeFormula}
 use Rattle.acceptance.specs.Content.{basis}
 use Rattle.acceptance.specs.Check.{Verdict, refusal, fine, checked}
 use Rattle.acceptance.specs.Acceptance.{judgedBy, acceptance}
 use Rattle.acceptance.specs.Reduction.{formulaLimits, Reduction, refusedBy, shortForm, reductionOf, formulaReduced, packageReduced, reduction}
 use Rattle.services.specs.Services.{checkAnswer, checkedAs, fitted, shortAnswer, shortenedAs, shortOutput, shortenedInto, memberAnswer, membershipAs}
-use Rattle.services.specs.Demands.{Between}
+use Rattle.services.specs.Demands.{Between, AcceptedAs}
 use Rattle.services.proofs.VerdictNumbers.{Judged, check-number}
 use Rattle.services.proofs.OutputStart.{stored}
 
@@ -37,6 +37,9 @@ answered-fine bytes P e n = go (checked P) refl (check-number P) (rw e at n)
         let b : Between 8 15 r = rw q at j in
         let e : r ≡ 0 = rw (judgedBy, q) at z in absurd (omega (arith, b .0))
     go fine q j z = q
+
+pub acceptance-is : (bytes : List ℕ) (P : Package) → AcceptedAs bytes P → acceptance bytes ≡ read P
+acceptance-is bytes P acc = accepted-is bytes P (acc .reads) (answered-fine bytes P (acc .reads) (acc .answered))
 
 module _ (bytes : List ℕ) (P : Package) (acc : acceptance bytes ≡ read P) (text : List ℕ) (f : Poly)
     (reads : readFormula (P .head .p) (P .head .letters) formulaLimits text ≡ formula f) (budget : ℕ) where

@@ -2,7 +2,7 @@
 use mathlib.Core.Path.{_≡_, refl, sym, _∙_, ap}
 use mathlib.Core.Logic.{_≢_}
 use mathlib.Core.List.{List, [], _∷_}
-use Prim.Native.Nat.{ℕ, _≤_}
+use Prim.Native.Nat.{ℕ}
 use lib.ListN.{length}
 use Rattle.field.specs.Field.{fieldOf}
 use Rattle.words.specs.Order.{wordOrder}
@@ -15,17 +15,15 @@ use Rattle.overlaps.specs.Overlaps.{Overlap, leads, overlaps}
 use Rattle.overlaps.specs.Listing.{overlapText}
 use Rattle.overlaps.proofs.Listed.{listed-iff, overlaps-rising}
 use Rattle.acceptance.specs.Content.{basis}
-use Rattle.acceptance.specs.Acceptance.{acceptance}
-use Rattle.acceptance.specs.Reduction.{Reduction, shortForm, reduction}
+use Rattle.acceptance.specs.Reduction.{Reduction, shortForm}
 use Rattle.services.specs.declared.Listed.{Listed}
 use Rattle.services.specs.declared.Shortened.{Shortened}
-use Rattle.services.specs.declared.Membership.{Membership}
-use Rattle.services.specs.Services.{listable, checkAnswer, checkedAs, listAnswer, listedAs, listOutput, listedInto, shortAnswer, shortenedAs, shortOutput, shortenedInto, memberAnswer, membershipAs}
+use Rattle.services.specs.Services.{checkAnswer, checkedAs, listAnswer, listedAs, listOutput, listedInto, shortAnswer, shortenedAs, shortOutput, shortenedInto, memberAnswer, membershipAs}
 use Rattle.services.specs.Demands.{AcceptedAs, ReadAs, OverlapsOf, ListsOverlaps, StepsTo, ShortensBySteps, DecidesBySteps}
 use Rattle.services.proofs.Room.{room-listed}
 use Rattle.services.proofs.OutputStart.{fitted-start}
-use Rattle.services.proofs.Answers.{accepted-is, answered-fine}
-use Rattle.services.proofs.NumberZero.{accepted-as, list-answered, RanTo, short-ran, member-ran}
+use Rattle.services.proofs.Answers.{acceptance-is}
+use Rattle.services.proofs.NumberZero.{accepted-as, list-answered, short-ran, member-ran}
 use Rattle.services.proofs.Rows.{with-room}
 
 overlaps-of : (P : Package) → OverlapsOf P (overlaps (leads (basis P)))
@@ -35,8 +33,7 @@ overlaps-of P = record { all = listed-iff (leads (basis P)); order = overlaps-ri
 pub check-count : (bytes : List ℕ) (P : Package) → AcceptedAs bytes P → (os : List Overlap) × OverlapsOf P os × (checkedAs bytes .overlaps ≡ length os)
 unfolding checkedAs checkAnswer
 check-count bytes P acc =
-    let e = accepted-is bytes P (acc .reads) (answered-fine bytes P (acc .reads) (acc .answered)) in
-    (overlaps (leads (basis P)), overlaps-of P, ap (λ (o : Outcome). checkAnswer o .overlaps) e)
+    (overlaps (leads (basis P)), overlaps-of P, ap (λ (o : Outcome). checkAnswer o .overlaps) (acceptance-is bytes P acc))
 
 -- The list.
 pub list-overlaps : (bytes out : List ℕ) → listedAs bytes (length out) .number ≡ 0
@@ -48,7 +45,7 @@ list-overlaps bytes out n =
       P,
       r,
       record {
-        overlaps = overlaps (leads (basis P));
+        rows = overlaps (leads (basis P));
         exact = overlaps-of P;
         count = ap (λ (x : Listed). x .overlaps) a;
         size = ap (λ (x : Listed). x .written) a;
@@ -70,12 +67,12 @@ short-by-steps bytes text budget out n =
     let (N, m, r, l, x) = short-ran bytes text budget (length out) n in
     let a = ap (shortAnswer (length out)) r ∙ with-room N m (length out) l in (
       x .content,
-      x .polynomial,
+      x .input,
       accepted-as bytes (x .content) (x .accepted),
       x .reads,
       record {
         form = N;
-        steps = steps-of (x .content) (x .polynomial) budget N m _ (ap (λ (y : Shortened). y .steps) a) (x .ran);
+        steps = steps-of (x .content) (x .input) budget N m _ (ap (λ (y : Shortened). y .steps) a) (x .ran);
         size = ap (λ (y : Shortened). y .written) a;
         output = ap (shortOutput out) r ∙ fitted-start (writeFormula N) out l;
       },
@@ -88,20 +85,20 @@ unfolding membershipAs memberAnswer
 member-by-steps bytes text budget n =
     let (N, m, r, x) = member-ran bytes text budget n in (
       x .content,
-      x .polynomial,
+      x .input,
       accepted-as bytes (x .content) (x .accepted),
       x .reads,
       record {
         form = N;
-        steps = steps-of (x .content) (x .polynomial) budget N m _ (ap (λ (y : Reduction). memberAnswer y .steps) r ∙ told N m) (x .ran);
+        steps = steps-of (x .content) (x .input) budget N m _ (ap (λ (y : Reduction). memberAnswer y .steps) r ∙ steps-told N m) (x .ran);
         yes = λ e. ap (λ (y : Reduction). memberAnswer y .member) r ∙ yes N m e;
         no = λ e. ap (λ (y : Reduction). memberAnswer y .member) r ∙ no N m e;
       },
     )
   where
-    told : (N : Poly) (m : ℕ) → memberAnswer (shortForm N m) .steps ≡ m
-    told [] m = refl
-    told (t ∷ N) m = refl
+    steps-told : (N : Poly) (m : ℕ) → memberAnswer (shortForm N m) .steps ≡ m
+    steps-told [] m = refl
+    steps-told (t ∷ N) m = refl
 
     yes : (N : Poly) (m : ℕ) → N ≡ [] → memberAnswer (shortForm N m) .member ≡ 1
     yes N m e = rw e refl

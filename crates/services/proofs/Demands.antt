@@ -1,7 +1,6 @@
 -- The three demands (specs/Demands.antt) hold.
 use mathlib.Core.Path.{_≡_, refl, sym, _∙_}
 use mathlib.Core.Logic.{_≢_, _⊎_, inl, inr}
-use mathlib.Core.List.{List}
 use Prim.Native.Nat.{ℕ, zero, suc, _≤_}
 use native.Mathlib.Omega.{arith}
 use lib.ListN.{length}
@@ -14,9 +13,9 @@ use Rattle.services.proofs.DefinedAnswers.{check-count, list-overlaps, 
 use Rattle.services.proofs.ShortForms.{same-bytes-iff, written-short, member-iff}
 
 -- An answer's number is 0, and a refusal's is not.
-ends : {A B : Type 0} (n : ℕ) → (n ≡ 0 → A) → (n ≢ 0 → B) → A ⊎ B
-ends zero a b = inl (a refl)
-ends (suc n) a b = inr (b (λ e. omega arith))
+answer-or-refusal : {A B : Type 0} (n : ℕ) → (n ≡ 0 → A) → (n ≢ 0 → B) → A ⊎ B
+answer-or-refusal zero a b = inl (a refl)
+answer-or-refusal (suc n) a b = inr (b (λ e. omega arith))
 
 positive : (n : ℕ) → n ≢ 0 → 1 ≤ n
 positive zero h = absurd (h refl)
@@ -26,18 +25,18 @@ demand1 : Demand1
 demand1 = record {
   check = λ bytes.
       let n = checkedAs bytes .number in
-      ends n (λ e. (e, check-success bytes e)) (λ h. ((positive n h, check-numbers bytes), refused-check bytes h));
+      answer-or-refusal n (λ e. (e, check-success bytes e)) (λ h. ((positive n h, check-numbers bytes), refused-check bytes h));
   list = λ bytes out.
       let n = listedAs bytes (length out) .number in
-      ends n (λ e. (e, list-success bytes (length out) e))
+      answer-or-refusal n (λ e. (e, list-success bytes (length out) e))
       (λ h. let (a, b, c) = refused-list bytes out h in (listed n h (list-numbers bytes (length out)), a, b, c));
   short = λ bytes text budget out.
       let n = shortenedAs bytes text budget (length out) .number in
-      ends n (λ e. (e, short-success bytes text budget (length out) e))
+      answer-or-refusal n (λ e. (e, short-success bytes text budget (length out) e))
       (λ h. let (a, b, c) = refused-short bytes text budget out h in ((positive n h, short-numbers bytes text budget (length out)), a, b, c));
   member = λ bytes text budget.
       let n = membershipAs bytes text budget .number in
-      ends n (λ e. (e, member-success bytes text budget e))
+      answer-or-refusal n (λ e. (e, member-success bytes text budget e))
       (λ h. let (a, b) = refused-member bytes text budget h in ((positive n h, member-numbers bytes text budget), a, b));
 }
   where
@@ -46,7 +45,7 @@ demand1 = record {
     listed n h (inr e) = inr e
 
 demand2 : Demand2
-demand2 = record { accepted = accepted-iff; count = check-count; list = list-overlaps; short = short-by-steps; member = member-by-steps }
+demand2 = record { accepted = accepted-iff; check-count = check-count; list = list-overlaps; short = short-by-steps; member = member-by-steps }
 
 demand3 : Demand3
 demand3 = record {
@@ -57,6 +56,6 @@ demand3 = record {
   member = λ {bytes} {P} acc text f reads budget. member-iff bytes P acc text f reads budget;
 }
 
--- Every service answers or refuses and leaves no trace; what is answered is what 01 says; and short forms decide equality modulo the relations.
+-- Every service answers, or refuses and changes nothing; what is answered is what 01 says; and short forms decide equality modulo the relations.
 pub demands : Demand1 × Demand2 × Demand3
 demands = (demand1, demand2, demand3)

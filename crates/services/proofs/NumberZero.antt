@@ -1,7 +1,7 @@
 -- A call with number 0 has judged all that came before its answer: the package reads and is accepted, the formula reads, the run ended, and the room suffices.
-use mathlib.Core.Path.{_≡_, refl, ap, subst}
+use mathlib.Core.Path.{_≡_, refl, ap}
 use mathlib.Core.Bool.{Bool, true, false}
-use mathlib.Core.List.{List, [], _∷_}
+use mathlib.Core.List.{List}
 use Prim.Native.Nat.{ℕ, _≤_}
 use native.Mathlib.Omega.{arith}
 use lib.Dec.{ltb}
@@ -59,10 +59,10 @@ list-answered bytes room e = go (listable bytes) refl (listable-number bytes) e
 -- The package, the formula and the run that a short form came of.
 pub record RanTo (bytes text : List ℕ) (budget : ℕ) (N : Poly) (m : ℕ) : Type 0 where
   pub content : Package
-  pub polynomial : Poly
+  pub input : Poly
   pub accepted : acceptance bytes ≡ read content
-  pub reads : ReadAs content text polynomial
-  pub ran : run 512 (fieldOf (content .head .p)) wordOrder (basis content) budget 0 polynomial ≡ answer N m
+  pub reads : ReadAs content text input
+  pub ran : run 512 (fieldOf (content .head .p)) wordOrder (basis content) budget 0 input ≡ answer N m
 
 reduction-ran : (bytes text : List ℕ) (budget : ℕ) (N : Poly) (m : ℕ) → reduction bytes text budget ≡ shortForm N m → RanTo bytes text budget N m
 unfolding reduction packageReduced formulaReduced reductionOf
@@ -81,7 +81,7 @@ reduction-ran bytes text budget N m e = go (acceptance bytes) refl e
     at P a (wrongAt n) r q = no q
     at P a (formula f) r q = record {
       content = P;
-      polynomial = f;
+      input = f;
       accepted = a;
       reads = r;
       ran = ends (run 512 (fieldOf (P .head .p)) wordOrder (basis P) budget 0 f) q;

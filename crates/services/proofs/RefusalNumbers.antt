@@ -11,7 +11,7 @@ use Rattle.package.specs.declared.Limits.{Limits}
 use Rattle.package.specs.Names.{headNames, termNames, sumNames}
 use Rattle.package.specs.Head.{HeadForm, noHead, head, headForm, primeFits, countsFit}
 use Rattle.package.specs.Terms.{TermLine, TermForm, noTerm, term, termForm, LineAbove, start, termFits, follows, hasRoom, counted, TermVerdict, refuse, accept, judged, judgeTerm, Block2, refused2, ended2, block2}
-use Rattle.package.specs.Sums.{SumLine, SumForm, noSum, sum, sumForm, sumFits, sumFollows, SumVerdict, refuse3, accept3, judged3, judgeSum, Block3, refused3, fine, atEnd, block3, sumsOf}
+use Rattle.package.specs.Sums.{SumForm, noSum, sum, sumForm, sumFits, sumFollows, SumVerdict, refuse3, accept3, judged3, judgeSum, Block3, refused3, fine, atEnd, block3, sumsOf}
 use Rattle.package.specs.Package.{Outcome, refused, read, lastBlock, lowerBlocks, line3, headed, line2, line1, readWith, readPackage, packageLimits}
 use Rattle.services.specs.Demands.{Between}
 

@@ -9,7 +9,7 @@ use mathlib.Core.Logic.{_↔_, _≢_, _⊎_}
 use mathlib.Core.List.{List, [], _∷_, _++_, List·Memᴰ}
 use Prim.Native.Nat.{ℕ, _≤_}
 use lib.ListN.{length, take, drop}
-use Rattle.field.specs.Field.{Operations, fieldOf}
+use Rattle.field.specs.Field.{fieldOf}
 use Rattle.words.specs.Word.{Letter}
 use Rattle.words.specs.Order.{wordOrder}
 use Rattle.algebra.specs.Poly.{Poly, InLetters, sub}
@@ -38,7 +38,7 @@ pub record AcceptedAs (bytes : List ℕ) (P : Package) : Type 0 where
   pub reads : readPackage bytes ≡ read P
   pub answered : checkedAs bytes .number ≡ 0
 
--- Under the package P the formula's bytes are read as the polynomial f, which is in the package's letters.
+-- Under the package P the formula's bytes are read as the polynomial f: at most 48 terms, in the package's letters.
 abbrev pub ReadAs : Package → List ℕ → Poly → Type 0
 ReadAs P text f = readFormula (P .head .p) (P .head .letters) formulaLimits text ≡ formula f
 
@@ -46,7 +46,7 @@ ReadAs P text f = readFormula (P .head .p) (P .head .letters) formulaLimits text
 abbrev pub atStart : List ℕ → List ℕ → List ℕ
 atStart text out = text ++ drop (length text) out
 
--- ==== Demand 1: a service answers, or it refuses and leaves no trace
+-- ==== Demand 1: a service answers, or it refuses and changes nothing
 
 -- One of the numbers lo to hi.
 abbrev pub Between : ℕ → ℕ → ℕ → Type 0
@@ -90,7 +90,7 @@ pub record Demand1 : Type 0 where
 -- basis, its overlaps and its sums (acceptance/specs/Facts.antt).
 pub record FactsHold (bytes : List ℕ) : Type 0 where
   pub content : Package
-  pub text : bytes ≡ writePackage content
+  pub is-text : bytes ≡ writePackage content
   pub size : length bytes ≤ 65536
   pub readable : Readable content
   pub facts : Acceptable content
@@ -107,11 +107,11 @@ listText P os = overlapNames ++ (10 ∷ overlapLines (leads (basis P)) 1 os)
 
 -- Listing answers with these overlaps: it tells their number, and their text is at the start of the output slice.
 pub record ListsOverlaps (P : Package) (a : Listed) (before after : List ℕ) : Type 0 where
-  pub overlaps : List Overlap
-  pub exact : OverlapsOf P overlaps
-  pub count : a .overlaps ≡ length overlaps
-  pub size : a .written ≡ length (listText P overlaps)
-  pub output : after ≡ atStart (listText P overlaps) before
+  pub rows : List Overlap
+  pub exact : OverlapsOf P rows
+  pub count : a .overlaps ≡ length rows
+  pub size : a .written ≡ length (listText P rows)
+  pub output : after ≡ atStart (listText P rows) before
 
 -- m steps by 01's rule bring f to N, where nothing is reducible. The lines are what the steps subtract, in order.
 pub record StepsTo (P : Package) (f N : Poly) (m : ℕ) : Type 0 where
@@ -141,7 +141,7 @@ pub record DecidesBySteps (P : Package) (f : Poly) (a : Membership) : Type 0 whe
 -- Each step: `Sequence` (algebra/specs/Steps.antt) makes 01's step at 01's word and place. The fields below say the rest.
 pub record Demand2 : Type 0 where
   pub accepted : (bytes : List ℕ) → (checkedAs bytes .number ≡ 0) ↔ FactsHold bytes
-  pub count : (bytes : List ℕ) (P : Package) → AcceptedAs bytes P → (os : List Overlap) × OverlapsOf P os × (checkedAs bytes .overlaps ≡ length os)
+  pub check-count : (bytes : List ℕ) (P : Package) → AcceptedAs bytes P → (os : List Overlap) × OverlapsOf P os × (checkedAs bytes .overlaps ≡ length os)
   pub list : (bytes out : List ℕ) → listedAs bytes (length out) .number ≡ 0
       → (P : Package) × (readPackage bytes ≡ read P) × ListsOverlaps P (listedAs bytes (length out)) out (listedInto bytes out)
   pub short : (bytes text : List ℕ) (budget : ℕ) (out : List ℕ) → shortenedAs bytes text budget (length out) .number ≡ 0
@@ -167,29 +167,29 @@ abbrev pub ShortFormOf : Package → Poly → Poly → Type 0
 ShortFormOf P f N = Short (Letter (P .head .letters)) (fieldOf (P .head .p)) wordOrder (family (relations P)) (family (basis P)) f N
 
 -- A formula gets a short form when its call answers number 0.
-abbrev pub Answered : List ℕ → List ℕ → ℕ → List ℕ → Type 0
-Answered bytes text budget out = shortenedAs bytes text budget (length out) .number ≡ 0
+abbrev pub GetsShortForm : List ℕ → List ℕ → ℕ → List ℕ → Type 0
+GetsShortForm bytes text budget out = shortenedAs bytes text budget (length out) .number ≡ 0
 
 -- The bytes that the call writes to the output slice.
 abbrev pub writtenBytes : List ℕ → List ℕ → ℕ → List ℕ → List ℕ
 writtenBytes bytes text budget out = take (shortenedAs bytes text budget (length out) .written) (shortenedInto bytes text budget out)
 
 -- Under the package's bytes some call, with whatever budget and output slice, whose formula is read as f, gets a short form and writes the bytes s.
-pub record Gets (bytes : List ℕ) (P : Package) (f : Poly) (s : List ℕ) : Type 0 where
+pub record GetsBytes (bytes : List ℕ) (P : Package) (f : Poly) (s : List ℕ) : Type 0 where
   pub text : List ℕ
   pub budget : ℕ
   pub out : List ℕ
   pub reads : ReadAs P text f
-  pub answered : Answered bytes text budget out
+  pub answered : GetsShortForm bytes text budget out
   pub bytes-written : writtenBytes bytes text budget out ≡ s
 
 -- The bytes s are the text of the one short form of f. It is in the package's letters, and every polynomial with the two properties equals it: there is
 -- no bound on the other's terms and words, and it may even be in other letters. Like every polynomial of 01 it is in written form.
 pub record OneShortForm (P : Package) (f : Poly) (s : List ℕ) : Type 0 where
   pub form : Poly
-  pub text : s ≡ writeFormula form
+  pub is-text : s ≡ writeFormula form
   pub letters : InLetters (Letter (P .head .letters)) form
-  pub short : ShortFormOf P f form
+  pub is-short : ShortFormOf P f form
   pub only : (M : Poly) → ShortFormOf P f M → M ≡ form
 
 -- Demand 3. Whichever package is accepted, whichever two formulas in its letters are handed in under it, and whatever budget and output slice each has: if
@@ -198,7 +198,20 @@ pub record OneShortForm (P : Package) (f : Poly) (s : List ℕ) : Type 0 where
 -- these two. So membership says yes exactly of such sums.
 pub record Demand3 : Type 0 where
   pub same-bytes : {bytes : List ℕ} {P : Package} → AcceptedAs bytes P
-      → {f g : Poly} {s t : List ℕ} → Gets bytes P f s → Gets bytes P g t → (s ≡ t) ↔ EqualModulo P f g
-  pub short-form : {bytes : List ℕ} {P : Package} → AcceptedAs bytes P → {f : Poly} {s : List ℕ} → Gets bytes P f s → OneShortForm P f s
+      → {f g : Poly} {s t : List ℕ} → GetsBytes bytes P f s → GetsBytes bytes P g t → (s ≡ t) ↔ EqualModulo P f g
+  pub short-form : {bytes : List ℕ} {P : Package} → AcceptedAs bytes P → {f : Poly} {s : List ℕ} → GetsBytes bytes P f s → OneShortForm P f s
   pub member : {bytes : List ℕ} {P : Package} → AcceptedAs bytes P → (text : List ℕ) (f : Poly) → ReadAs P text f
       → (budget : ℕ) → membershipAs bytes text budget .number ≡ 0 → (membershipAs bytes text budget .member ≡ 1) ↔ RelationSum P f
+
+-- ==== Where the requests of document 02 add to this page
+--
+-- Demand 1 gets a field for each new service, with the numbers it can give: completing a package (P1: 20, 21), running blocks (P5: 22, 23), counting and
+-- listing short words (P7: 24), adding a trail back (P8: 25), carrying short forms (P13: 30 to 32), single coefficients (P14). P8's trail is a second slice
+-- that a refusal leaves unchanged. The ranges above grow where the check, the reader or the steps gain a number (P10: 26, 27; P11: 28, 29).
+--
+-- Demand 2 gets what each new answer is by its definition: a completed package is accepted (P1); the list goes on with inclusions (P2); words are counted
+-- and listed (P7); a trail gives its formula back (P8); every single change that makes a member is listed, once, and nothing else (P14).
+--
+-- Demand 3 keeps its three fields under untrimmed bases (P2), any leading coefficient (P4), GF(256) (P9) and weights (P10), where `fieldOf`, `wordOrder` and
+-- `Short` are given by the package. It gains that a formula and its short form act alike on blocks (P5), that the two houses' sums are the same (P11), that
+-- every sequence of steps ends in the service's short form (P12), and that a carried short form is the new one of the original formula (P13).
