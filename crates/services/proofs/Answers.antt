@@ -1,31 +1,27 @@
 -- What a service's answer with number 0 comes from: a package that reads and is accepted, a formula that reads, and a run that ended.
-use mathlib.Core.Path.{_≡_, refl, sym, _∙_, ap}
+use mathlib.Core.Path.{_≡_, refl, _∙_, ap}
 use mathlib.Core.Bool.{Bool, true, false}
-use mathlib.Core.List.{List, [], _∷_}
-use Prim.Native.Nat.{ℕ, zero, suc, _+_, _≤_, _<_}
+use mathlib.Core.List.{List}
+use Prim.Native.Nat.{ℕ}
 use native.Mathlib.Omega.{arith}
 use lib.Dec.{ltb}
-use lib.ListN.{length, take, drop}
-use lib.Seq.{sets, sets-eq, take-at}
+use lib.ListN.{length, take}
 use borrow.Author.Tests.{ltb-false}
 use Rattle.field.specs.Field.{fieldOf}
 use Rattle.words.specs.Order.{wordOrder}
 use Rattle.algebra.specs.Poly.{Poly}
 use Rattle.algebra.specs.Steps.{Ended, answer, over, spent, run}
-use Rattle.package.specs.Formula.{FormulaOutcome, wrongAt, formula, readFormula}
-use Rattle.package.specs.Package.{Package, Outcome, refused, read, readPackage}
+use Rattle.package.specs.Formula.{formula, readFormula}
+use Rattle.package.specs.Package.{Package, read, readPackage}
 use Rattle.package.specs.Writing.{writeFormula}
 use Rattle.acceptance.specs.Content.{basis}
 use Rattle.acceptance.specs.Check.{Verdict, refusal, fine, checked}
 use Rattle.acceptance.specs.Acceptance.{judgedBy, acceptance}
 use Rattle.acceptance.specs.Reduction.{formulaLimits, Reduction, refusedBy, shortForm, reductionOf, formulaReduced, packageReduced, reduction}
 use Rattle.services.specs.Services.{checkAnswer, checkedAs, fitted, shortAnswer, shortenedAs, shortOutput, shortenedInto, memberAnswer, membershipAs}
-use Rattle.services.proofs.RefusalNumbers.{Numbered, read-number}
+use Rattle.services.specs.Demands.{Between, AcceptedAs}
 use Rattle.services.proofs.VerdictNumbers.{Judged, check-number}
-
--- Bytes written from the start are the first ones.
-stored : (w v : List ℕ) → length v ≤ length w → take (length v) (sets w 0 v) ≡ v
-stored w v h = ap (take (length v)) (sets-eq v w 0 (omega arith)) ∙ take-at v (drop (0 + length v) w) (length v) refl
+use Rattle.services.proofs.OutputStart.{stored}
 
 -- The check refuses nothing exactly where the package reads and no refusal of 8 to 15 is met.
 pub accepted-is : (bytes : List ℕ) (P : Package) → readPackage bytes ≡ read P → checked P ≡ fine → acceptance bytes ≡ read P
@@ -36,9 +32,14 @@ pub answered-fine : (bytes : List ℕ) (P : Package) → readPackage bytes ≡ r
 unfolding checkedAs acceptance Judged checkAnswer judgedBy
 answered-fine bytes P e n = go (checked P) refl (check-number P) (rw e at n)
   where
-    go : (v : Verdict) → checked P ≡ v → Judged (checked P) → checkAnswer (judgedBy checked (read P)) .number ≡ 0 → checked P ≡ fine
-    go (refusal r k) q j z = absurd ((rw q at j) (rw (judgedBy, q) at z))
+    go : (v : Verdict) → checked P ≡ v → Judged (Between 8 15) (checked P) → checkAnswer (judgedBy checked (read P)) .number ≡ 0 → checked P ≡ fine
+    go (refusal r k) q j z =
+        let b : Between 8 15 r = rw q at j in
+        let e : r ≡ 0 = rw (judgedBy, q) at z in absurd (omega (arith, b .0))
     go fine q j z = q
+
+pub acceptance-is : (bytes : List ℕ) (P : Package) → AcceptedAs bytes P → acceptance bytes ≡ read P
+acceptance-is bytes P acc = accepted-is bytes P (acc .reads) (answered-fine bytes P (acc .reads) (acc .answered))
 
 module _ (bytes : List ℕ) (P : Package) (acc : acceptance bytes ≡ read P) (text : List ℕ) (f : Poly)
     (reads : readFormula (P .head .p) (P .head .letters) formulaLimits text ≡ formula f) (budget : ℕ) where

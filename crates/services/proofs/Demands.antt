@@ -1,123 +1,61 @@
--- The three demands, as theorems about the services' answers.
-use mathlib.Core.Path.{_≡_, refl, sym, _∙_, ap, ap₂}
-use mathlib.Core.Bool.{Bool, true, false}
-use mathlib.Core.List.{List, [], _∷_}
-use mathlib.Core.Logic.{_↔_}
+-- The three demands (specs/Demands.antt) hold.
+use mathlib.Core.Path.{_≡_, refl, sym, _∙_}
+use mathlib.Core.Logic.{_≢_, _⊎_, inl, inr}
 use Prim.Native.Nat.{ℕ, zero, suc, _≤_}
 use native.Mathlib.Omega.{arith}
-use lib.Dec.{ltb}
-use lib.ListN.{length, getD}
-use Rattle.field.specs.Field.{fieldOf}
-use Rattle.lists.specs.All.{All, done, _also_}
-use Rattle.words.specs.Word.{Letter}
-use Rattle.words.specs.Order.{wordOrder}
-use Rattle.words.proofs.WordOrder.{word-order-admissible}
-use Rattle.algebra.specs.Poly.{Poly, InLetters, sub}
-use Rattle.algebra.specs.Written.{Written}
-use Rattle.algebra.specs.Ideal.{family, InIdeal}
-use Rattle.algebra.specs.Short.{Accepted, Short}
-use Rattle.algebra.specs.Steps.{answer, run}
-use Rattle.algebra.proofs.Running.{run-sequence, sequence-short, sequence-letters}
-use Rattle.algebra.proofs.Uniqueness.{short-iff, short-unique, short-zero}
-use Rattle.package.specs.Package.{Package, Outcome, refused, read, readPackage}
-use Rattle.package.specs.Readable.{Readable}
-use Rattle.package.specs.Writing.{writeFormula}
-use Rattle.package.proofs.PackageTexts.{reads-written}
-use Rattle.package.proofs.LineBounds.{HeadBounds, head-bounds}
-use Rattle.acceptance.specs.Content.{relations, basis}
-use Rattle.acceptance.specs.Check.{Verdict, refusal, fine, checked}
-use Rattle.acceptance.specs.Facts.{Acceptable}
-use Rattle.acceptance.proofs.ReadableContent.{readable-field, basis-letters}
-use Rattle.acceptance.proofs.Packages.{accepted-iff-facts, package-accepted}
-use Rattle.acceptance.proofs.FormulaContent.{formula-content, text-unique}
-use Rattle.acceptance.specs.Acceptance.{judgedBy, acceptance}
-use Rattle.acceptance.specs.Reduction.{Reduction, refusedBy, shortForm, reduction, formulaLimits}
-use Rattle.services.specs.Services.{listable, checkAnswer, checkedAs, fitted, listAnswer, listedAs, listOutput, listedInto, wordsListed, shortAnswer, shortenedAs, shortOutput, shortenedInto, memberAnswer, membershipAs}
-use Rattle.services.specs.Demands.{AcceptedAs, ReadAs, Answered, writtenBytes, RelationSum, EqualModulo, ShortFormOf}
-use Rattle.services.proofs.Answers.{accepted-is, answered-fine, short-answered, member-answered, reduced-is, written-is}
+use lib.ListN.{length}
+use Rattle.services.specs.Services.{checkedAs, listedAs, shortenedAs, membershipAs}
+use Rattle.services.specs.Demands.{Between, Demand1, Demand2, Demand3}
+use Rattle.services.proofs.ServiceNumbers.{check-numbers, check-success, list-numbers, list-success, short-numbers, short-success, member-numbers, member-success}
+use Rattle.services.proofs.Refusals.{refused-check, refused-list, refused-short, refused-member}
+use Rattle.services.proofs.Acceptance.{accepted-iff}
+use Rattle.services.proofs.DefinedAnswers.{check-count, list-overlaps, short-by-steps, member-by-steps}
+use Rattle.services.proofs.ShortForms.{same-bytes-iff, written-short, member-iff}
 
--- The letters of one polynomial of a family, where all its polynomials are in the letters.
-member-letters : (L : ℕ → Type 0) (ps : List Poly) → All (InLetters L) ps → (i : ℕ) → InLetters L (getD ps i [])
-member-letters L [] done i = done
-member-letters L (p ∷ ps) (x also xs) zero = x
-member-letters L (p ∷ ps) (x also xs) (suc i) = member-letters L ps xs i
+-- An answer's number is 0, and a refusal's is not.
+answer-or-refusal : {A B : Type 0} (n : ℕ) → (n ≡ 0 → A) → (n ≢ 0 → B) → A ⊎ B
+answer-or-refusal zero a b = inl (a refl)
+answer-or-refusal (suc n) a b = inr (b (λ e. omega arith))
 
-family-letters : (L : ℕ → Type 0) (ps : List Poly) → All (InLetters L) ps → (i : ℕ) → InLetters L (family ps i)
-unfolding family
-family-letters L ps a i = member-letters L ([] ∷ ps) (done also a) i
+positive : (n : ℕ) → n ≢ 0 → 1 ≤ n
+positive zero h = absurd (h refl)
+positive (suc n) h = omega arith
 
-module _ (bytes : List ℕ) (P : Package) (acc : AcceptedAs bytes P) where
-  readable : Readable P
-  readable = reads-written P bytes (acc .reads) .0
+demand1 : Demand1
+demand1 = record {
+  check = λ bytes.
+      let n = checkedAs bytes .number in
+      answer-or-refusal n (λ e. (e, check-success bytes e)) (λ h. ((positive n h, check-numbers bytes), refused-check bytes h));
+  list = λ bytes out.
+      let n = listedAs bytes (length out) .number in
+      answer-or-refusal n (λ e. (e, list-success bytes (length out) e))
+      (λ h. let (a, b, c) = refused-list bytes out h in (listed n h (list-numbers bytes (length out)), a, b, c));
+  short = λ bytes text budget out.
+      let n = shortenedAs bytes text budget (length out) .number in
+      answer-or-refusal n (λ e. (e, short-success bytes text budget (length out) e))
+      (λ h. let (a, b, c) = refused-short bytes text budget out h in ((positive n h, short-numbers bytes text budget (length out)), a, b, c));
+  member = λ bytes text budget.
+      let n = membershipAs bytes text budget .number in
+      answer-or-refusal n (λ e. (e, member-success bytes text budget e))
+      (λ h. let (a, b) = refused-member bytes text budget h in ((positive n h, member-numbers bytes text budget), a, b));
+}
+  where
+    listed : (n : ℕ) → n ≢ 0 → (n ≤ 9) ⊎ (n ≡ 19) → Between 1 9 n ⊎ (n ≡ 19)
+    listed n h (inl l) = inl (positive n h, l)
+    listed n h (inr e) = inr e
 
-  bounds : HeadBounds (P .head)
-  bounds = head-bounds (P .head) (readable .prime) (readable .counts)
+demand2 : Demand2
+demand2 = record { accepted = accepted-iff; check-count = check-count; list = list-overlaps; short = short-by-steps; member = member-by-steps }
 
-  fine-check : checked P ≡ fine
-  fine-check = answered-fine bytes P (acc .reads) (acc .answered)
+demand3 : Demand3
+demand3 = record {
+  same-bytes = λ {bytes} {P} acc {f} {g} x y.
+      let i = same-bytes-iff bytes P acc (x .text) (y .text) f g (x .reads) (y .reads) (x .budget) (y .budget) (x .out) (y .out) (x .answered) (y .answered) in
+      (λ e. i .0 (x .bytes-written ∙ e ∙ sym (y .bytes-written)), λ d. sym (x .bytes-written) ∙ i .1 d ∙ y .bytes-written);
+  short-form = λ {bytes} {P} acc {f} x. rw (x .bytes-written) at (written-short bytes P acc (x .text) f (x .reads) (x .budget) (x .out) (x .answered));
+  member = λ {bytes} {P} acc text f reads budget. member-iff bytes P acc text f reads budget;
+}
 
-  stands : acceptance bytes ≡ read P
-  stands = accepted-is bytes P (acc .reads) fine-check
-
-  -- Demand 2: an accepted package's facts hold.
-  pub accepted-facts : Acceptable P
-  accepted-facts = accepted-iff-facts P readable .0 fine-check
-
-  basis-accepted : Accepted (Letter (P .head .letters)) (fieldOf (P .head .p)) wordOrder (family (relations P)) (family (basis P))
-  basis-accepted = package-accepted P readable accepted-facts
-
-  module _ (text : List ℕ) (f : Poly) (reads : ReadAs P text f) where
-    content : Written (fieldOf (P .head .p)) wordOrder f × InLetters (Letter (P .head .letters)) f
-    content = formula-content (P .head .p) (P .head .letters) formulaLimits text f reads
-
-    -- the end of a run is a short form, in the letters
-    ran-short : (budget : ℕ) (N : Poly) (m : ℕ) → run 512 (fieldOf (P .head .p)) wordOrder (basis P) budget 0 f ≡ answer N m
-        → ShortFormOf P f N × InLetters (Letter (P .head .letters)) N
-    ran-short budget N m e =
-        let F = readable-field P readable in
-        let v = family-letters (Letter (P .head .letters)) (basis P) (basis-letters P readable) in
-        let (xs, s, l) = run-sequence 512 (fieldOf (P .head .p)) wordOrder (basis P) budget f N m e in (
-          sequence-short F word-order-admissible (basis P) (Letter (P .head .letters)) v basis-accepted (content .0) (content .1) s,
-          sequence-letters F word-order-admissible (basis P) (Letter (P .head .letters)) v (content .1) s,
-        )
-
-    -- Demand 3, the short form: the bytes written are the text of a polynomial with no leading word inside that differs from the formula by a
-    -- sum over the relations, and any polynomial with both properties equals it.
-    pub written-short : (budget : ℕ) (out : List ℕ) → Answered bytes text budget out
-        → (N : Poly) × (writtenBytes bytes text budget out ≡ writeFormula N) × ShortFormOf P f N × ((M : Poly) → ShortFormOf P f M → M ≡ N)
-    written-short budget out n =
-        let (N, m, e) = short-answered bytes P stands text f reads budget (length out) n in
-        let s = ran-short budget N m e .0 in
-        (N, written-is bytes P stands text f reads budget N m e out n, s, λ M t. short-unique (readable-field P readable) word-order-admissible basis-accepted t s)
-
-    -- Membership: yes exactly where the formula is a sum over the relations.
-    pub member-iff : (budget : ℕ) → membershipAs bytes text budget .number ≡ 0 → (membershipAs bytes text budget .member ≡ 1) ↔ RelationSum P f
-    unfolding membershipAs memberAnswer
-    member-iff budget n =
-        let (N, m, e) = member-answered bytes P stands text f reads budget n in
-        let z = short-zero (readable-field P readable) word-order-admissible basis-accepted (ran-short budget N m e .0) in
-        let r = reduced-is bytes P stands text f reads budget N m e in
-        (λ y. z .0 (yes-zero N m (rw r at y)), λ y. ap (λ (x : Reduction). memberAnswer x .member) r ∙ zero-yes N m (z .1 y))
-      where
-        yes-zero : (N : Poly) (m : ℕ) → memberAnswer (shortForm N m) .member ≡ 1 → N ≡ []
-        yes-zero [] m q = refl
-        yes-zero (t ∷ N) m q = absurd (omega arith)
-
-        zero-yes : (N : Poly) (m : ℕ) → N ≡ [] → memberAnswer (shortForm N m) .member ≡ 1
-        zero-yes N m q = rw q refl
-
-  -- Demand 3: two formulas that get short forms get the same bytes exactly where they are equal modulo the relations.
-  pub same-bytes-iff : (text₁ text₂ : List ℕ) (f g : Poly) → ReadAs P text₁ f → ReadAs P text₂ g
-      → (budget₁ budget₂ : ℕ) (out₁ out₂ : List ℕ) → Answered bytes text₁ budget₁ out₁ → Answered bytes text₂ budget₂ out₂
-      → (writtenBytes bytes text₁ budget₁ out₁ ≡ writtenBytes bytes text₂ budget₂ out₂) ↔ EqualModulo P f g
-  same-bytes-iff text₁ text₂ f g x y budget₁ budget₂ out₁ out₂ a b =
-      let (M, m, d) = short-answered bytes P stands text₁ f x budget₁ (length out₁) a in
-      let (N, n, e) = short-answered bytes P stands text₂ g y budget₂ (length out₂) b in
-      let (s, k) = ran-short text₁ f x budget₁ M m d in
-      let (t, l) = ran-short text₂ g y budget₂ N n e in
-      let u = written-is bytes P stands text₁ f x budget₁ M m d out₁ a in
-      let v = written-is bytes P stands text₂ g y budget₂ N n e out₂ b in
-      let i = short-iff (readable-field P readable) word-order-admissible basis-accepted s t in (
-        λ q. i .0 (text-unique (P .head .p) (P .head .letters) (bounds .most) (bounds .letters) M N (s .written) k (t .written) l (sym u ∙ q ∙ v)),
-        λ q. u ∙ ap writeFormula (i .1 q) ∙ sym v,
-      )
+-- Every service answers, or refuses and changes nothing; what is answered is what 01 says; and short forms decide equality modulo the relations.
+pub demands : Demand1 × Demand2 × Demand3
+demands = (demand1, demand2, demand3)

@@ -43,7 +43,7 @@ acceptedAsNone = record { reads = refl; answered = refl }
 
 keepsNone : Keeps packageNone
 unfolding acceptedNone basis
-keepsNone = record { content = acceptedNone .0; accepted = acceptedAsNone; same = λ text f r. none-keeps packageNone (acceptedNone .0) acceptedAsNone text f r refl }
+keepsNone = record { content = acceptedNone .0; accepted = acceptedAsNone; unchanged = λ text f r. none-keeps packageNone (acceptedNone .0) acceptedAsNone text f r refl }
 
 -- A constant relation with basis 1: every formula comes to zero.
 acceptedAsOne : AcceptedAs packageOne (acceptedOne .0)
@@ -52,7 +52,7 @@ acceptedAsOne = record { reads = refl; answered = refl }
 
 emptiesOne : Empties packageOne
 unfolding acceptedOne basis writeFormula
-emptiesOne = record { content = acceptedOne .0; accepted = acceptedAsOne; zero = λ text f r. one-empties packageOne (acceptedOne .0) acceptedAsOne text f r refl }
+emptiesOne = record { content = acceptedOne .0; accepted = acceptedAsOne; to-zero = λ text f r. one-empties packageOne (acceptedOne .0) acceptedAsOne text f r refl }
 
 -- 01's table of the rows marked †.
 pub examples-hold : All Claim examples

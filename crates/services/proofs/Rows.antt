@@ -1,11 +1,10 @@
 -- How a row of the tables of examples follows from what is computed for it.
 use mathlib.Core.Path.{_≡_, refl, sym, _∙_, ap}
-use mathlib.Core.List.{List, [], _++_}
+use mathlib.Core.List.{List, []}
 use Prim.Native.Nat.{ℕ, _≤_, _<_}
 use native.Mathlib.Nat.{zero-add}
 use native.Mathlib.Omega.{arith}
-use lib.ListN.{length, drop}
-use lib.Seq.{sets-eq}
+use lib.ListN.{length}
 use borrow.Author.Tests.{lt-ltb, le-ltb}
 use Rattle.field.specs.Field.{fieldOf}
 use Rattle.words.specs.declared.Comparison.the-variants.{Above}
@@ -21,22 +20,19 @@ use Rattle.overlaps.specs.Overlaps.{leads, overlaps}
 use Rattle.overlaps.specs.Listing.{overlapText}
 use Rattle.acceptance.specs.Content.{basis}
 use Rattle.acceptance.specs.Acceptance.{acceptance}
-use Rattle.acceptance.specs.Reduction.{formulaLimits, Reduction, refusedBy, shortForm, reductionOf, formulaReduced, packageReduced, reduction}
-use Rattle.services.specs.Services.{listable, checkAnswer, checkedAs, fitted, listAnswer, listedAs, listOutput, listedInto, shortAnswer, shortenedAs, shortOutput, shortenedInto, memberAnswer, membershipAs}
-use Rattle.services.specs.Examples.{atStart, refusal, Shortens, IsAbove, Lists, Accepts, IsMember, Refuses}
+use Rattle.acceptance.specs.Reduction.{formulaLimits, refusedBy, shortForm, reductionOf, formulaReduced, packageReduced, reduction}
+use Rattle.services.specs.Services.{listable, checkAnswer, checkedAs, listAnswer, listedAs, listOutput, listedInto, shortAnswer, shortenedAs, shortOutput, shortenedInto, memberAnswer, membershipAs}
+use Rattle.services.specs.Examples.{refusedShort, Shortens, IsAbove, Lists, IsAccepted, IsMember, Refuses}
 use Rattle.services.proofs.Budgets.{run-more, run-fewer}
-use Rattle.services.proofs.Room.{no-room, no-room-kept, room-listed, room-written}
-
--- Bytes that fit stand at the slice's start.
-fitted-start : (text out : List ℕ) → length text ≤ length out → fitted text out ≡ atStart text out
-fitted-start text out h = room-written text out h ∙ sets-eq text out 0 (omega arith) ∙ ap (λ (n : ℕ). text ++ drop n out) (zero-add (length text))
+use Rattle.services.proofs.Room.{no-room, no-room-kept, room-listed}
+use Rattle.services.proofs.OutputStart.{fitted-start}
 
 -- A short form after m steps comes of a run that took them.
-ran : (N : Poly) (m : ℕ) (e : Ended) → reductionOf m e ≡ shortForm N m → e ≡ answer N m
+ended-with : (N : Poly) (m : ℕ) (e : Ended) → reductionOf m e ≡ shortForm N m → e ≡ answer N m
 unfolding reductionOf
-ran N m (answer M k) q = cc
-ran N m (over k) q = cc
-ran N m spent q = cc
+ended-with N m (answer M k) q = cc
+ended-with N m (over k) q = cc
+ended-with N m spent q = cc
 
 -- The budget m gives a formula the short form N after m steps: so does every greater one, and a lesser one gives 18.
 module _ (P : Package) (N : Poly) (m : ℕ) where
@@ -45,7 +41,7 @@ module _ (P : Package) (N : Poly) (m : ℕ) where
   more (wrongAt n) q budget h = cc
   more (formula f) q budget h =
       let K = fieldOf (P .head .p) in
-      ap (reductionOf budget) (run-more 512 K wordOrder (basis P) m budget 0 f N m h (ran N m (run 512 K wordOrder (basis P) m 0 f) q))
+      ap (reductionOf budget) (run-more 512 K wordOrder (basis P) m budget 0 f N m h (ended-with N m (run 512 K wordOrder (basis P) m 0 f) q))
 
   less : (o : FormulaOutcome) → formulaReduced P m o ≡ shortForm N m → (budget : ℕ) → budget < m → formulaReduced P budget o ≡ refusedBy 18 budget
   unfolding formulaReduced reductionOf
@@ -53,7 +49,7 @@ module _ (P : Package) (N : Poly) (m : ℕ) where
   less (formula f) q budget h =
       let K = fieldOf (P .head .p) in
       ap (reductionOf budget)
-      (run-fewer 512 K wordOrder (basis P) m budget 0 m f N h (ran N m (run 512 K wordOrder (basis P) m 0 f) q ∙ ap (answer N) (sym (zero-add m))))
+      (run-fewer 512 K wordOrder (basis P) m budget 0 m f N h (ended-with N m (run 512 K wordOrder (basis P) m 0 f) q ∙ ap (answer N) (sym (zero-add m))))
 
 -- The same of the bytes of a package that is accepted as P.
 module _ (bytes : List ℕ) (P : Package) (acc : acceptance bytes ≡ read P) (text : List ℕ) (N : Poly) (m : ℕ)
@@ -67,12 +63,12 @@ module _ (bytes : List ℕ) (P : Package) (acc : acceptance bytes ≡ read P) (t
   reduced-less budget h = ap (packageReduced text budget) acc ∙ less P N m (readFormula (P .head .p) (P .head .letters) formulaLimits text) computed budget h
 
 -- A short form's answer, with room and without.
-with-room : (N : Poly) (m room : ℕ) → length (writeFormula N) ≤ room
+pub with-room : (N : Poly) (m room : ℕ) → length (writeFormula N) ≤ room
     → shortAnswer room (shortForm N m) ≡ record { number = 0; place = 0; steps = m; written = length (writeFormula N) }
 unfolding shortAnswer
 with-room N m room l = rw (shortAnswer, le-ltb room (length (writeFormula N)) l)
 
-without-room : (N : Poly) (m room : ℕ) → room < length (writeFormula N) → shortAnswer room (shortForm N m) ≡ refusal 19 (length (writeFormula N))
+without-room : (N : Poly) (m room : ℕ) → room < length (writeFormula N) → shortAnswer room (shortForm N m) ≡ refusedShort 19 (length (writeFormula N))
 unfolding shortAnswer
 without-room N m room l = rw (shortAnswer, lt-ltb room (length (writeFormula N)) l)
 
@@ -102,7 +98,7 @@ is-member {bytes} {P} acc {text} {m} computed = record {
   fewer = λ budget h. ap memberAnswer (reduced-less bytes P acc text [] m computed budget h);
 }
 
--- A row of a refusal: of the formula or of the budget, whatever the room; or of the room.
+-- A row of a refusedShort: of the formula or of the budget, whatever the room; or of the room.
 pub refuses : {bytes : List ℕ} {P : Package} → acceptance bytes ≡ read P
     → {text : List ℕ} {budget n k : ℕ} → packageReduced text budget (read P) ≡ refusedBy n k → {room : ℕ} → Refuses bytes text budget room n k
 unfolding shortenedAs shortenedInto shortAnswer shortOutput reduction
@@ -140,6 +136,6 @@ lists {P = P} acc c t = rw (← t, ← c) (record {
 })
 
 -- A row of an accepted package.
-pub accepts : {bytes : List ℕ} {P : Package} → acceptance bytes ≡ read P → {count : ℕ} → length (overlaps (leads (basis P))) ≡ count → Accepts bytes count
+pub accepts : {bytes : List ℕ} {P : Package} → acceptance bytes ≡ read P → {count : ℕ} → length (overlaps (leads (basis P))) ≡ count → IsAccepted bytes count
 unfolding checkedAs checkAnswer
-accepts acc c = record { answer = ap checkAnswer acc ∙ rw c refl }
+accepts acc c = record { answered = ap checkAnswer acc ∙ rw c refl }

@@ -2,7 +2,7 @@
 use mathlib.Core.Path.{_≡_, refl, sym, _∙_, ap}
 use mathlib.Core.Bool.{Bool, true, false}
 use mathlib.Core.List.{List, [], _∷_}
-use Prim.Native.Nat.{ℕ, zero, suc, _+_, _≤_}
+use Prim.Native.Nat.{ℕ, suc, _+_, _≤_}
 use native.Mathlib.Nat.{zero-add}
 use native.Mathlib.Omega.{arith}
 use lib.Dec.{eqb, ltb}
@@ -25,8 +25,8 @@ use Rattle.algebra.specs.Steps.{takeAway, lineAt, stepped, Ended, answer, over,
 use Rattle.package.specs.declared.Limits.{Limits}
 use Rattle.package.specs.Bounds.{coefFits, wordFits}
 use Rattle.words.specs.Below.{isBelow}
-use Rattle.package.specs.Formula.{rowFits, formula, readFormula}
-use Rattle.package.specs.Package.{Package, read}
+use Rattle.package.specs.Formula.{rowFits}
+use Rattle.package.specs.Package.{Package}
 use Rattle.package.specs.Readable.{RowsInOrder, noRows, rowThen}
 use Rattle.package.specs.Writing.{writeFormula}
 use Rattle.package.proofs.FormulaTexts.{formula-reads}
@@ -34,37 +34,36 @@ use Rattle.package.proofs.PackageTexts.{reads-written}
 use Rattle.acceptance.specs.Content.{basis}
 use Rattle.acceptance.proofs.LineFacts.{both}
 use Rattle.acceptance.proofs.ReadableContent.{readable-field}
-use Rattle.acceptance.specs.Acceptance.{acceptance}
-use Rattle.acceptance.specs.Reduction.{formulaLimits, shortForm, reductionOf, formulaReduced, packageReduced}
+use Rattle.acceptance.specs.Reduction.{formulaLimits, reductionOf, formulaReduced, packageReduced}
 use Rattle.services.specs.Demands.{AcceptedAs, ReadAs}
 use Rattle.services.specs.Examples.{Shortens}
-use Rattle.services.proofs.Answers.{accepted-is, answered-fine}
+use Rattle.services.proofs.Answers.{acceptance-is}
 use Rattle.services.proofs.Rows.{shortens}
 
 -- No leading word stands in a word, so nothing is reducible.
-spot-none : (w : Word) (i : ℕ) → spotFrom [] w i ≡ nowhere
+spot-of-none : (w : Word) (i : ℕ) → spotFrom [] w i ≡ nowhere
 unfolding spotFrom spotAt firstBegins
-spot-none [] i = refl
-spot-none (a ∷ w) i = spot-none w (suc i)
+spot-of-none [] i = refl
+spot-of-none (a ∷ w) i = spot-of-none w (suc i)
 
-target-none : (f : Poly) → target [] f ≡ reduced
+target-of-none : (f : Poly) → target [] f ≡ reduced
 unfolding target targetOf spot
-target-none [] = refl
-target-none (t ∷ f) = ap (λ s. targetOf t s (target [] f)) (spot-none (t .word) 0) ∙ target-none f
+target-of-none [] = refl
+target-of-none (t ∷ f) = ap (λ s. targetOf t s (target [] f)) (spot-of-none (t .word) 0) ∙ target-of-none f
 
 -- The basis whose one polynomial is 1.
-abbrev pub one : List Poly
-one = (record { coef = 1; word = [] } ∷ []) ∷ []
+abbrev pub basisOne : List Poly
+basisOne = (record { coef = 1; word = [] } ∷ []) ∷ []
 
 -- The empty word stands in every word, so the first term is reducible.
-spot-one : (w : Word) → spot one w ≡ found 0 1
+spot-one : (w : Word) → spot basisOne w ≡ found 0 1
 unfolding spot spotFrom spotAt firstBegins
 spot-one [] = refl
 spot-one (a ∷ w) = refl
 
-target-one : (t : Term) (f : Poly) → target one (t ∷ f) ≡ reducible t 0 1
+target-one : (t : Term) (f : Poly) → target basisOne (t ∷ f) ≡ reducible t 0 1
 unfolding target targetOf
-target-one t f = ap (λ s. targetOf t s (target one f)) (spot-one (t .word))
+target-one t f = ap (λ s. targetOf t s (target basisOne f)) (spot-one (t .word))
 
 module _ {K : Operations} (F : Field K) {O : Order} (A : Admissible O) where
   open Operations K using (red, add, mul, neg)
@@ -74,7 +73,7 @@ module _ {K : Operations} (F : Field K) {O : Order} (A : Admissible O) where
   cancels c = rw (F .mul-one, F .red-neg, F .add-comm (neg c) c, F .add-neg) (red-zero F)
 
   -- The step takes the term away.
-  stepped-one : (t : Term) (f : Poly) → stepped K O one (t ∷ f) t 0 1 ≡ f
+  stepped-one : (t : Term) (f : Poly) → stepped K O basisOne (t ∷ f) t 0 1 ≡ f
   unfolding stepped takeAway lineAt plus insert put scale shift family lead
   stepped-one t f =
       ap (λ (c : Comparison). elim c [
@@ -89,7 +88,7 @@ module _ {K : Operations} (F : Field K) {O : Order} (A : Admissible O) where
       s = record { coef = mul (neg (t .coef)) 1; word = t .word }
 
   -- As many steps as there are terms leave zero.
-  run-one : (limit : ℕ) (f : Poly) (used : ℕ) → length f ≤ limit → run limit K O one (length f) used f ≡ answer [] (used + length f)
+  run-one : (limit : ℕ) (f : Poly) (used : ℕ) → length f ≤ limit → run limit K O basisOne (length f) used f ≡ answer [] (used + length f)
   unfolding run onward target
   run-one limit [] used h = ap (answer []) (omega arith)
   run-one limit (t ∷ f) used h =
@@ -100,10 +99,10 @@ module _ {K : Operations} (F : Field K) {O : Order} (A : Admissible O) where
       ∙ ap (answer []) (omega arith)
     where
       next : Bool → Poly → Ended
-      next b g = elim b [ true ↦ over (suc used) | false ↦ run limit K O one (length f) (suc used) g ]
+      next b g = elim b [ true ↦ over (suc used) | false ↦ run limit K O basisOne (length f) (suc used) g ]
 
       after : Term → ℕ → ℕ → Ended
-      after u i n = next (ltb limit (length (stepped K O one (t ∷ f) u i n))) (stepped K O one (t ∷ f) u i n)
+      after u i n = next (ltb limit (length (stepped K O basisOne (t ∷ f) u i n))) (stepped K O basisOne (t ∷ f) u i n)
 
 -- A formula that reads has at most 48 terms.
 rows-few : (p letters : ℕ) (m : Limits) (v : Word) (n : ℕ) (ts : Poly) → n ≤ m .terms → RowsInOrder p letters m v n ts → n + length ts ≤ m .terms
@@ -119,28 +118,24 @@ rows-few p letters m v n (t ∷ ts) h (rowThen e os) =
     let i = rows-few p letters m (t .word) (suc n) ts (omega arith) os in omega arith
 
 module _ (bytes : List ℕ) (P : Package) (acc : AcceptedAs bytes P) where
-  -- The check takes the bytes for P.
-  stands : acceptance bytes ≡ read P
-  stands = accepted-is bytes P (acc .reads) (answered-fine bytes P (acc .reads) (acc .answered))
-
   module _ (text : List ℕ) (f : Poly) (reads : ReadAs P text f) where
     -- The formula's bytes are the text of its terms, which are in order.
-    written : RowsInOrder (P .head .p) (P .head .letters) formulaLimits [] 0 f × (text ≡ writeFormula f)
-    written = formula-reads (P .head .p) (P .head .letters) formulaLimits text f reads
+    formula-text : RowsInOrder (P .head .p) (P .head .letters) formulaLimits [] 0 f × (text ≡ writeFormula f)
+    formula-text = formula-reads (P .head .p) (P .head .letters) formulaLimits text f reads
 
     -- Under an empty basis each formula is its own short form.
     pub none-keeps : basis P ≡ [] → Shortens bytes text text 0
     unfolding packageReduced formulaReduced reductionOf run onward
     none-keeps e =
-        shortens stands (ap (formulaReduced P 0) reads ∙ ap (λ (ps : List Poly). reductionOf 0 (run 512 (fieldOf (P .head .p)) wordOrder ps 0 0 f)) e
-        ∙ ap (λ (o : Target). reductionOf 0 (onward (λ t i n. spent) f 0 o)) (target-none f)) (sym (written .1))
+        shortens (acceptance-is bytes P acc) (ap (formulaReduced P 0) reads ∙ ap (λ (ps : List Poly). reductionOf 0 (run 512 (fieldOf (P .head .p)) wordOrder ps 0 0 f)) e
+        ∙ ap (λ (o : Target). reductionOf 0 (onward (λ t i n. spent) f 0 o)) (target-of-none f)) (sym (formula-text .1))
 
     -- Under the basis 1 every short form is zero, and each step takes one term.
-    pub one-empties : basis P ≡ one → Shortens bytes text (writeFormula []) (length f)
+    pub one-empties : basis P ≡ basisOne → Shortens bytes text (writeFormula []) (length f)
     unfolding packageReduced formulaReduced reductionOf
     one-empties e =
         let F = readable-field P (reads-written P bytes (acc .reads) .0) in
-        let l = rows-few (P .head .p) (P .head .letters) formulaLimits [] 0 f (omega arith) (written .0) in
-        shortens stands (ap (formulaReduced P (length f)) reads
+        let l = rows-few (P .head .p) (P .head .letters) formulaLimits [] 0 f (omega arith) (formula-text .0) in
+        shortens (acceptance-is bytes P acc) (ap (formulaReduced P (length f)) reads
         ∙ ap (λ (ps : List Poly). reductionOf (length f) (run 512 (fieldOf (P .head .p)) wordOrder ps (length f) 0 f)) e
         ∙ ap (reductionOf (length f)) (run-one F word-order-admissible 512 f 0 (omega arith) ∙ ap (answer []) (zero-add (length f)))) refl

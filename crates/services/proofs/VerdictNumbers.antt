@@ -1,10 +1,9 @@
--- No refusal of the check has the number 0.
-use mathlib.Core.Path.{_≡_, refl}
+-- A package that reads is refused by one of the numbers 8 to 15; where the basis alone is judged, by 8 or 9. Each law says that a refusal's number has
+-- every property Q that the numbers of that judgement have.
 use mathlib.Core.Bool.{Bool, true, false}
 use mathlib.Core.List.{List, [], _∷_}
 use Prim.Native.Nat.{ℕ, suc}
-use native.Mathlib.Omega.{arith}
-use lib.Dec.{eqb, ltb}
+use lib.Dec.{eqb, ltb, lit≤}
 use lib.ListN.{length}
 use Rattle.field.specs.Field.{Operations, fieldOf}
 use Rattle.words.specs.Word.{Word}
@@ -13,91 +12,97 @@ use Rattle.algebra.specs.Poly.{Poly}
 use Rattle.algebra.specs.Written.{written}
 use Rattle.algebra.specs.Ideal.{Family, family}
 use Rattle.overlaps.specs.Overlaps.{Overlap, leads, overlaps, overlapWord, difference}
+use Rattle.package.specs.Names.{sumB, sumG, sumO}
 use Rattle.package.specs.Sums.{SumLine}
 use Rattle.package.specs.Package.{Package}
 use Rattle.acceptance.specs.Content.{relations, basis, sumOf}
 use Rattle.acceptance.specs.Check.{Verdict, refusal, fine, thenJudge, leadsJudged, holdsOther, apartJudged, Left, over, rest, lessLines, sumVerdict, sumsJudged, itemsJudged, Certified, notBelow, certified, lessBelow, overlapVerdict, overlapsJudged, basisJudged, sumsVerdict, checked}
+use Rattle.services.specs.Demands.{Between}
 
-some : {n : ℕ} → suc n ≡ 0 → ⊥
-some e = omega arith
+module _ (Q : ℕ → Type 0) where
+  -- A verdict that, where it is a refusal, has a number with the property Q.
+  unfoldable pub Judged : Verdict → Type 0
+  Judged (refusal n k) = Q n
+  Judged fine = Unit {0}
 
-unfoldable pub Judged : Verdict → Type 0
-Judged (refusal n k) = n ≡ 0 → ⊥
-Judged fine = Unit {0}
+  then-number : (v w : Verdict) → Judged v → Judged w → Judged (thenJudge v w)
+  unfolding Judged thenJudge
+  then-number (refusal n k) w x y = x
+  then-number fine w x y = y
 
-then-number : (v w : Verdict) → Judged v → Judged w → Judged (thenJudge v w)
-unfolding Judged thenJudge
-then-number (refusal n k) w x y = x
-then-number fine w x y = y
+  leads-number : Q 8 → (ps : List Poly) (i : ℕ) → Judged (leadsJudged ps i)
+  unfolding Judged leadsJudged
+  leads-number q [] i = tt
+  leads-number q ([] ∷ ps) i = q
+  leads-number q ((t ∷ f) ∷ ps) i = go (eqb (t .coef) 1) (leads-number q ps (suc i))
+    where
+      go : (b : Bool) → Judged (leadsJudged ps (suc i)) → Judged (elim b [ true ↦ leadsJudged ps (suc i) | false ↦ refusal 8 i ])
+      go true x = x
+      go false x = q
 
-leads-number : (ps : List Poly) (i : ℕ) → Judged (leadsJudged ps i)
-unfolding Judged leadsJudged
-leads-number [] i = tt
-leads-number ([] ∷ ps) i = some
-leads-number ((t ∷ f) ∷ ps) i = go (eqb (t .coef) 1) (leads-number ps (suc i))
-  where
-    go : (b : Bool) → Judged (leadsJudged ps (suc i)) → Judged (elim b [ true ↦ leadsJudged ps (suc i) | false ↦ refusal 8 i ])
-    go true x = x
-    go false x = some
+  apart-number : Q 9 → (all us : List Word) (i : ℕ) → Judged (apartJudged all us i)
+  unfolding Judged apartJudged
+  apart-number q all [] i = tt
+  apart-number q all (u ∷ us) i = go (holdsOther u i all 1) (apart-number q all us (suc i))
+    where
+      go : (b : Bool) → Judged (apartJudged all us (suc i)) → Judged (elim b [ true ↦ refusal 9 i | false ↦ apartJudged all us (suc i) ])
+      go true x = q
+      go false x = x
 
-apart-number : (all us : List Word) (i : ℕ) → Judged (apartJudged all us i)
-unfolding Judged apartJudged
-apart-number all [] i = tt
-apart-number all (u ∷ us) i = go (holdsOther u i all 1) (apart-number all us (suc i))
-  where
-    go : (b : Bool) → Judged (apartJudged all us (suc i)) → Judged (elim b [ true ↦ refusal 9 i | false ↦ apartJudged all us (suc i) ])
-    go true x = some
-    go false x = x
+  left-number : Q 10 → {n : ℕ} → Q n → (i : ℕ) (l : Left) → Judged (sumVerdict n i l)
+  unfolding Judged sumVerdict
+  left-number q r i (over k) = q
+  left-number q r i (rest []) = tt
+  left-number q r i (rest (t ∷ f)) = r
 
-left-number : (n i : ℕ) (l : Left) → Judged (sumVerdict (suc n) i l)
-unfolding Judged sumVerdict
-left-number n i (over k) = some
-left-number n i (rest []) = tt
-left-number n i (rest (t ∷ f)) = some
+  sums-number : Q 10 → {n : ℕ} → Q n → (k : ℕ) (K : Operations) (O : Order) (G : Family) (ss : List SumLine) (fs : List Poly) (i : ℕ)
+      → Judged (sumsJudged n k K O G ss fs i)
+  unfolding Judged sumsJudged
+  sums-number q r k K O G ss [] i = tt
+  sums-number q {n} r k K O G ss (f ∷ fs) i =
+      then-number (sumVerdict n i (lessLines K O G f (sumOf k i ss))) (sumsJudged n k K O G ss fs (suc i))
+      (left-number q r i (lessLines K O G f (sumOf k i ss))) (sums-number q r k K O G ss fs (suc i))
 
-sums-number : (n k : ℕ) (K : Operations) (O : Order) (G : Family) (ss : List SumLine) (fs : List Poly) (i : ℕ) → Judged (sumsJudged (suc n) k K O G ss fs i)
-unfolding Judged sumsJudged
-sums-number n k K O G ss [] i = tt
-sums-number n k K O G ss (f ∷ fs) i =
-    then-number (sumVerdict (suc n) i (lessLines K O G f (sumOf k i ss))) (sumsJudged (suc n) k K O G ss fs (suc i))
-    (left-number n i (lessLines K O G f (sumOf k i ss))) (sums-number n k K O G ss fs (suc i))
+  items-number : Q 15 → (count : ℕ) (ss : List SumLine) → Judged (itemsJudged count ss)
+  unfolding Judged itemsJudged
+  items-number q count [] = tt
+  items-number q count (s ∷ ss) = go (eqb (s .kind) sumO) (ltb count (s .item)) (items-number q count ss)
+    where
+      go : (b c : Bool) → Judged (itemsJudged count ss)
+          → Judged (elim b [ false ↦ itemsJudged count ss | true ↦ elim c [ true ↦ refusal 15 (s .line) | false ↦ itemsJudged count ss ] ])
+      go false c x = x
+      go true true x = q
+      go true false x = x
 
-items-number : (count : ℕ) (ss : List SumLine) → Judged (itemsJudged count ss)
-unfolding Judged itemsJudged
-items-number count [] = tt
-items-number count (s ∷ ss) = go (eqb (s .kind) 3) (ltb count (s .item)) (items-number count ss)
-  where
-    go : (b c : Bool) → Judged (itemsJudged count ss)
-        → Judged (elim b [ false ↦ itemsJudged count ss | true ↦ elim c [ true ↦ refusal 15 (s .line) | false ↦ itemsJudged count ss ] ])
-    go false c x = x
-    go true true x = some
-    go true false x = x
+  overlap-number : Q 10 → Q 13 → Q 14 → (i : ℕ) (c : Certified) → Judged (overlapVerdict i c)
+  unfolding Judged overlapVerdict
+  overlap-number q r s i (notBelow k) = s
+  overlap-number q r s i (certified l) = left-number q r i l
 
-overlap-number : (i : ℕ) (c : Certified) → Judged (overlapVerdict i c)
-unfolding Judged overlapVerdict
-overlap-number i (notBelow k) = some
-overlap-number i (certified l) = left-number 12 i l
+  overlaps-number : Q 10 → Q 13 → Q 14 → (K : Operations) (O : Order) (G : Family) (ss : List SumLine) (os : List Overlap) (i : ℕ)
+      → Judged (overlapsJudged K O G ss os i)
+  unfolding Judged overlapsJudged
+  overlaps-number q r s K O G ss [] i = tt
+  overlaps-number q r s K O G ss (o ∷ os) i =
+      let c = lessBelow K O G (overlapWord G o) (written K O (difference K G o)) (sumOf sumO i ss) in
+      then-number (overlapVerdict i c) (overlapsJudged K O G ss os (suc i)) (overlap-number q r s i c) (overlaps-number q r s K O G ss os (suc i))
 
-overlaps-number : (K : Operations) (O : Order) (G : Family) (ss : List SumLine) (os : List Overlap) (i : ℕ) → Judged (overlapsJudged K O G ss os i)
-unfolding Judged overlapsJudged
-overlaps-number K O G ss [] i = tt
-overlaps-number K O G ss (o ∷ os) i =
-    let c = lessBelow K O G (overlapWord G o) (written K O (difference K G o)) (sumOf 3 i ss) in
-    then-number (overlapVerdict i c) (overlapsJudged K O G ss os (suc i)) (overlap-number i c) (overlaps-number K O G ss os (suc i))
+  -- The basis is refused by 8 or 9.
+  pub basis-number : Q 8 → Q 9 → (ps : List Poly) → Judged (basisJudged ps)
+  unfolding basisJudged
+  basis-number q r ps = then-number (leadsJudged ps 1) (apartJudged (leads ps) (leads ps) 1) (leads-number q ps 1) (apart-number r (leads ps) (leads ps) 1)
 
-pub basis-number : (ps : List Poly) → Judged (basisJudged ps)
-unfolding basisJudged
-basis-number ps = then-number (leadsJudged ps 1) (apartJudged (leads ps) (leads ps) 1) (leads-number ps 1) (apart-number (leads ps) (leads ps) 1)
-
-pub check-number : (P : Package) → Judged (checked P)
+-- The check refuses a package that reads by one of 8 to 15.
+pub check-number : (P : Package) → Judged (Between 8 15) (checked P)
 unfolding checked sumsVerdict
 check-number P =
     let K = fieldOf (P .head .p) in
     let rs = relations P in
     let ps = basis P in
     let ss = P .sums in
-    then-number (basisJudged ps) _ (basis-number ps)
-    (then-number (sumsJudged 11 1 K wordOrder (family rs) ss ps 1) _ (sums-number 10 1 K wordOrder (family rs) ss ps 1)
-    (then-number (sumsJudged 12 2 K wordOrder (family ps) ss rs 1) _ (sums-number 11 2 K wordOrder (family ps) ss rs 1)
-    (then-number (itemsJudged (length (overlaps (leads ps))) ss) _ (items-number (length (overlaps (leads ps))) ss)
-    (overlaps-number K wordOrder (family ps) ss (overlaps (leads ps)) 1))))
+    let Q = Between 8 15 in
+    then-number Q (basisJudged ps) _ (basis-number Q (lit≤ tt, lit≤ tt) (lit≤ tt, lit≤ tt) ps)
+    (then-number Q (sumsJudged 11 sumB K wordOrder (family rs) ss ps 1) _ (sums-number Q (lit≤ tt, lit≤ tt) (lit≤ tt, lit≤ tt) sumB K wordOrder (family rs) ss ps 1)
+    (then-number Q (sumsJudged 12 sumG K wordOrder (family ps) ss rs 1) _ (sums-number Q (lit≤ tt, lit≤ tt) (lit≤ tt, lit≤ tt) sumG K wordOrder (family ps) ss rs 1)
+    (then-number Q (itemsJudged (length (overlaps (leads ps))) ss) _ (items-number Q (lit≤ tt, lit≤ tt) (length (overlaps (leads ps))) ss)
+    (overlaps-number Q (lit≤ tt, lit≤ tt) (lit≤ tt, lit≤ tt) (lit≤ tt, lit≤ tt) K wordOrder (family ps) ss (overlaps (leads ps)) 1))))

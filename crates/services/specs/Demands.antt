@@ -1,45 +1,217 @@
--- What the three demands on the services say of their answers (document 01, 'What demand 3 compares').
+-- The page of promises: each of the three demands on the services is a type, with its sentence above it. `demands` (proofs/Demands.antt) proves all three.
+--
+-- They speak of what the services answer by definition (Services.antt): `checkedAs`, `listedAs`, `shortenedAs` and `membershipAs` are the answers,
+-- `listedInto` and `shortenedInto` the output slice at exit. The contract of each exported function says that its answer and every byte of the output
+-- slice equal these definitions. No contract has a precondition, and a proved function returns; so every service ends on any bytes, and what stands here
+-- of the definitions holds of what a C program gets.
 use mathlib.Core.Path.{_≡_}
-use mathlib.Core.List.{List, [], _∷_}
-use Prim.Native.Nat.{ℕ}
-use lib.ListN.{length, take}
-use Rattle.field.specs.Field.{Operations, fieldOf}
+use mathlib.Core.Logic.{_↔_, _≢_, _⊎_}
+use mathlib.Core.List.{List, [], _∷_, _++_, List·Memᴰ}
+use Prim.Native.Nat.{ℕ, _≤_}
+use lib.ListN.{length, take, drop}
+use Rattle.field.specs.Field.{fieldOf}
 use Rattle.words.specs.Word.{Letter}
 use Rattle.words.specs.Order.{wordOrder}
-use Rattle.algebra.specs.Poly.{Poly, sub}
-use Rattle.algebra.specs.Ideal.{family, InIdeal}
+use Rattle.algebra.specs.Poly.{Poly, InLetters, sub}
+use Rattle.algebra.specs.Ideal.{Line, family, InIdeal}
 use Rattle.algebra.specs.Short.{Short}
+use Rattle.algebra.specs.Steps.{Sequence}
 use Rattle.package.specs.Formula.{formula, readFormula}
 use Rattle.package.specs.Package.{Package, read, readPackage}
+use Rattle.package.specs.Readable.{Readable}
+use Rattle.package.specs.Writing.{writeFormula, writePackage}
+use Rattle.overlaps.specs.Overlaps.{Overlap, IsOverlap, Rising, leads}
+use Rattle.overlaps.specs.Listing.{overlapNames, overlapLines}
 use Rattle.acceptance.specs.Content.{relations, basis}
+use Rattle.acceptance.specs.Facts.{Acceptable}
 use Rattle.acceptance.specs.Reduction.{formulaLimits}
-use Rattle.services.specs.Services.{checkedAs, shortenedAs, shortenedInto}
+use Rattle.services.specs.declared.Checked.{Checked}
+use Rattle.services.specs.declared.Listed.{Listed}
+use Rattle.services.specs.declared.Shortened.{Shortened}
+use Rattle.services.specs.declared.Membership.{Membership}
+use Rattle.services.specs.Services.{checkedAs, listedAs, listedInto, shortenedAs, shortenedInto, membershipAs}
 
--- The bytes are read as the package P, and the check answers number 0.
+-- ==== Words that the demands use
+
+-- The bytes are read as the package P, and the check answers number 0: the package is accepted.
 pub record AcceptedAs (bytes : List ℕ) (P : Package) : Type 0 where
   pub reads : readPackage bytes ≡ read P
   pub answered : checkedAs bytes .number ≡ 0
 
--- Under the package P the formula's bytes are read as the polynomial f.
+-- Under the package P the formula's bytes are read as the polynomial f: at most 48 terms, in the package's letters.
 abbrev pub ReadAs : Package → List ℕ → Poly → Type 0
 ReadAs P text f = readFormula (P .head .p) (P .head .letters) formulaLimits text ≡ formula f
 
+-- A text at the start of an output slice; the bytes after it keep their old values.
+abbrev pub atStart : List ℕ → List ℕ → List ℕ
+atStart text out = text ++ drop (length text) out
+
+-- ==== Demand 1: a service answers, or it refuses and changes nothing
+
+-- One of the numbers lo to hi.
+abbrev pub Between : ℕ → ℕ → ℕ → Type 0
+Between lo hi n = (lo ≤ n) × (n ≤ hi)
+
+-- An answer has number 0 and place 0.
+abbrev pub Success : ℕ → ℕ → Type 0
+Success number place = (number ≡ 0) × (place ≡ 0)
+
+-- The check answers, or it refuses by one of 1 to 15 with overlap count 0.
+abbrev pub CheckEnds : Checked → Type 0
+CheckEnds a = Success (a .number) (a .place) ⊎ (Between 1 15 (a .number) × (a .overlaps ≡ 0))
+
+-- Listing answers, or it refuses by one of 1 to 9 or by 19, with both counts 0, and the output slice is after it what it was before.
+abbrev pub ListEnds : Listed → List ℕ → List ℕ → Type 0
+ListEnds a before after =
+    Success (a .number) (a .place)
+    ⊎ ((Between 1 9 (a .number) ⊎ (a .number ≡ 19)) × (a .overlaps ≡ 0) × (a .written ≡ 0) × (after ≡ before))
+
+-- The short form service answers, or it refuses by one of 1 to 19, with both counts 0, and the output slice is after it what it was before.
+abbrev pub ShortEnds : Shortened → List ℕ → List ℕ → Type 0
+ShortEnds a before after =
+    Success (a .number) (a .place) ⊎ (Between 1 19 (a .number) × (a .steps ≡ 0) × (a .written ≡ 0) × (after ≡ before))
+
+-- Membership answers, or it refuses by one of 1 to 18 with 0 steps and no. It never gives 19: it has no output slice.
+abbrev pub MemberEnds : Membership → Type 0
+MemberEnds a = Success (a .number) (a .place) ⊎ (Between 1 18 (a .number) × (a .steps ≡ 0) × (a .member ≡ 0))
+
+-- Demand 1. Whatever bytes are handed in as a package or a formula, with whatever budget and output slice, every service ends and either answers or
+-- refuses by its number, and a refusal leaves the output slice unchanged.
+pub record Demand1 : Type 0 where
+  pub check : (bytes : List ℕ) → CheckEnds (checkedAs bytes)
+  pub list : (bytes out : List ℕ) → ListEnds (listedAs bytes (length out)) out (listedInto bytes out)
+  pub short : (bytes text : List ℕ) (budget : ℕ) (out : List ℕ)
+      → ShortEnds (shortenedAs bytes text budget (length out)) out (shortenedInto bytes text budget out)
+  pub member : (bytes text : List ℕ) (budget : ℕ) → MemberEnds (membershipAs bytes text budget)
+
+-- ==== Demand 2: what is answered is what document 01 says
+
+-- 01's facts of acceptance hold of the bytes: they are the text of a package, at most 65,536 of them, that reads, and of which hold the facts about its
+-- basis, its overlaps and its sums (acceptance/specs/Facts.antt).
+pub record FactsHold (bytes : List ℕ) : Type 0 where
+  pub content : Package
+  pub is-text : bytes ≡ writePackage content
+  pub size : length bytes ≤ 65536
+  pub readable : Readable content
+  pub facts : Acceptable content
+
+-- The list holds the overlaps of the package's leading words by 01's sentence, all of them and nothing else, by first, then second, then shared, all
+-- rising.
+pub record OverlapsOf (P : Package) (os : List Overlap) : Type 0 where
+  pub all : (o : Overlap) → List·Memᴰ o os ↔ IsOverlap (leads (basis P)) o
+  pub order : Rising os
+
+-- A list of overlaps as text: the names line, and below it a line for each, numbered from 1.
+abbrev pub listText : Package → List Overlap → List ℕ
+listText P os = overlapNames ++ (10 ∷ overlapLines (leads (basis P)) 1 os)
+
+-- Listing answers with these overlaps: it tells their number, and their text is at the start of the output slice.
+pub record ListsOverlaps (P : Package) (a : Listed) (before after : List ℕ) : Type 0 where
+  pub rows : List Overlap
+  pub exact : OverlapsOf P rows
+  pub count : a .overlaps ≡ length rows
+  pub size : a .written ≡ length (listText P rows)
+  pub output : after ≡ atStart (listText P rows) before
+
+-- m steps by 01's rule bring f to N, where nothing is reducible. The lines are what the steps subtract, in order.
+pub record StepsTo (P : Package) (f N : Poly) (m : ℕ) : Type 0 where
+  pub lines : List Line
+  pub sequence : Sequence (fieldOf (P .head .p)) wordOrder (basis P) f lines N
+  pub count : m ≡ length lines
+
+-- The short form service answers with the end of the steps from f: it tells how many there are, and that end, written as a formula, is at the start of
+-- the output slice.
+pub record ShortensBySteps (P : Package) (f : Poly) (a : Shortened) (before after : List ℕ) : Type 0 where
+  pub form : Poly
+  pub steps : StepsTo P f form (a .steps)
+  pub size : a .written ≡ length (writeFormula form)
+  pub output : after ≡ atStart (writeFormula form) before
+
+-- Membership answers with the steps from f: it tells how many there are, and yes (1) where their end is zero, no (0) where it is not.
+pub record DecidesBySteps (P : Package) (f : Poly) (a : Membership) : Type 0 where
+  pub form : Poly
+  pub steps : StepsTo P f form (a .steps)
+  pub yes : form ≡ [] → a .member ≡ 1
+  pub no : form ≢ [] → a .member ≡ 0
+
+-- Demand 2. A package is accepted exactly when document 01's facts hold of it; every service refuses exactly when 01 says so, with the number and place
+-- given there; and the overlap list, each rewriting step, the step count, the short form and the yes or no of membership are those of 01's definitions.
+--
+-- Numbers and places: the definitions in Services.antt are 01's order of refusals, line by line, and each service's contract is equality with them.
+-- Each step: `Sequence` (algebra/specs/Steps.antt) makes 01's step at 01's word and place. The fields below say the rest.
+pub record Demand2 : Type 0 where
+  pub accepted : (bytes : List ℕ) → (checkedAs bytes .number ≡ 0) ↔ FactsHold bytes
+  pub check-count : (bytes : List ℕ) (P : Package) → AcceptedAs bytes P → (os : List Overlap) × OverlapsOf P os × (checkedAs bytes .overlaps ≡ length os)
+  pub list : (bytes out : List ℕ) → listedAs bytes (length out) .number ≡ 0
+      → (P : Package) × (readPackage bytes ≡ read P) × ListsOverlaps P (listedAs bytes (length out)) out (listedInto bytes out)
+  pub short : (bytes text : List ℕ) (budget : ℕ) (out : List ℕ) → shortenedAs bytes text budget (length out) .number ≡ 0
+      → (P : Package) × (f : Poly) × AcceptedAs bytes P × ReadAs P text f
+      × ShortensBySteps P f (shortenedAs bytes text budget (length out)) out (shortenedInto bytes text budget out)
+  pub member : (bytes text : List ℕ) (budget : ℕ) → membershipAs bytes text budget .number ≡ 0
+      → (P : Package) × (f : Poly) × AcceptedAs bytes P × ReadAs P text f × DecidesBySteps P f (membershipAs bytes text budget)
+
+-- ==== Demand 3: short forms decide equality modulo the relations
+
+-- f is a sum over the package's relations: some finite list of coefficient × left × relation × right, left and right in the package's letters, adds up to
+-- it. Nothing in it is bounded.
+abbrev pub RelationSum : Package → Poly → Type 0
+RelationSum P f = InIdeal (Letter (P .head .letters)) (fieldOf (P .head .p)) (family (relations P)) f
+
+-- The difference of f and g is such a sum.
+abbrev pub EqualModulo : Package → Poly → Poly → Type 0
+EqualModulo P f g = RelationSum P (sub (fieldOf (P .head .p)) f g)
+
+-- N is in written form (distinct words, greatest first, coefficients 1 to p-1: what 01 calls a polynomial), has no leading word of the basis inside, and
+-- differs from f by a sum over the relations.
+abbrev pub ShortFormOf : Package → Poly → Poly → Type 0
+ShortFormOf P f N = Short (Letter (P .head .letters)) (fieldOf (P .head .p)) wordOrder (family (relations P)) (family (basis P)) f N
+
 -- A formula gets a short form when its call answers number 0.
-abbrev pub Answered : List ℕ → List ℕ → ℕ → List ℕ → Type 0
-Answered bytes text budget out = shortenedAs bytes text budget (length out) .number ≡ 0
+abbrev pub GetsShortForm : List ℕ → List ℕ → ℕ → List ℕ → Type 0
+GetsShortForm bytes text budget out = shortenedAs bytes text budget (length out) .number ≡ 0
 
 -- The bytes that the call writes to the output slice.
 abbrev pub writtenBytes : List ℕ → List ℕ → ℕ → List ℕ → List ℕ
 writtenBytes bytes text budget out = take (shortenedAs bytes text budget (length out) .written) (shortenedInto bytes text budget out)
 
--- f is a sum of multiples of the package's relations, in its letters; the number of lines has no bound.
-abbrev pub RelationSum : Package → Poly → Type 0
-RelationSum P f = InIdeal (Letter (P .head .letters)) (fieldOf (P .head .p)) (family (relations P)) f
+-- Under the package's bytes some call, with whatever budget and output slice, whose formula is read as f, gets a short form and writes the bytes s.
+pub record GetsBytes (bytes : List ℕ) (P : Package) (f : Poly) (s : List ℕ) : Type 0 where
+  pub text : List ℕ
+  pub budget : ℕ
+  pub out : List ℕ
+  pub reads : ReadAs P text f
+  pub answered : GetsShortForm bytes text budget out
+  pub bytes-written : writtenBytes bytes text budget out ≡ s
 
--- f and g are equal modulo the relations.
-abbrev pub EqualModulo : Package → Poly → Poly → Type 0
-EqualModulo P f g = RelationSum P (sub (fieldOf (P .head .p)) f g)
+-- The bytes s are the text of the one short form of f. It is in the package's letters, and every polynomial with the two properties equals it: there is
+-- no bound on the other's terms and words, and it may even be in other letters. Like every polynomial of 01 it is in written form.
+pub record OneShortForm (P : Package) (f : Poly) (s : List ℕ) : Type 0 where
+  pub form : Poly
+  pub is-text : s ≡ writeFormula form
+  pub letters : InLetters (Letter (P .head .letters)) form
+  pub is-short : ShortFormOf P f form
+  pub only : (M : Poly) → ShortFormOf P f M → M ≡ form
 
--- N has no leading word of the basis inside, and differs from f by a sum over the relations.
-abbrev pub ShortFormOf : Package → Poly → Poly → Type 0
-ShortFormOf P f N = Short (Letter (P .head .letters)) (fieldOf (P .head .p)) wordOrder (family (relations P)) (family (basis P)) f N
+-- Demand 3. Whichever package is accepted, whichever two formulas in its letters are handed in under it, and whatever budget and output slice each has: if
+-- both get a short form, the two are the same bytes exactly when the difference of the formulas is a finite sum of coefficient × word × relation × word,
+-- of any size; each short form has no leading word of the basis inside and differs from its formula by such a sum; and every other polynomial fails one of
+-- these two. So membership says yes exactly of such sums.
+pub record Demand3 : Type 0 where
+  pub same-bytes : {bytes : List ℕ} {P : Package} → AcceptedAs bytes P
+      → {f g : Poly} {s t : List ℕ} → GetsBytes bytes P f s → GetsBytes bytes P g t → (s ≡ t) ↔ EqualModulo P f g
+  pub short-form : {bytes : List ℕ} {P : Package} → AcceptedAs bytes P → {f : Poly} {s : List ℕ} → GetsBytes bytes P f s → OneShortForm P f s
+  pub member : {bytes : List ℕ} {P : Package} → AcceptedAs bytes P → (text : List ℕ) (f : Poly) → ReadAs P text f
+      → (budget : ℕ) → membershipAs bytes text budget .number ≡ 0 → (membershipAs bytes text budget .member ≡ 1) ↔ RelationSum P f
+
+-- ==== Where the requests of document 02 add to this page
+--
+-- Demand 1 gets a field for each new service, with the numbers it can give: completing a package (P1: 20, 21), running blocks (P5: 22, 23), counting and
+-- listing short words (P7: 24), adding a trail back (P8: 25), carrying short forms (P13: 30 to 32), single coefficients (P14). P8's trail is a second slice
+-- that a refusal leaves unchanged. The ranges above grow where the check, the reader or the steps gain a number (P10: 26, 27; P11: 28, 29).
+--
+-- Demand 2 gets what each new answer is by its definition: a completed package is accepted (P1); the list goes on with inclusions (P2); words are counted
+-- and listed (P7); a trail gives its formula back (P8); every single change that makes a member is listed, once, and nothing else (P14).
+--
+-- Demand 3 keeps its three fields under untrimmed bases (P2), any leading coefficient (P4), GF(256) (P9) and weights (P10), where `fieldOf`, `wordOrder` and
+-- `Short` are given by the package. It gains that a formula and its short form act alike on blocks (P5), that the two houses' sums are the same (P11), that
+-- every sequence of steps ends in the service's short form (P12), and that a carried short form is the new one of the original formula (P13).

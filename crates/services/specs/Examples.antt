@@ -1,10 +1,10 @@
 -- Document 01's examples as rows of tables: what the services answer on these bytes, and which of two words is greater.
 -- That every row holds is proved in proofs/Examples.antt: `examples-hold` and `edges-hold`.
 use mathlib.Core.Path.{_≡_}
-use mathlib.Core.List.{List, [], _∷_, _++_}
+use mathlib.Core.List.{List, [], _∷_}
 use Prim.Native.Nat.{ℕ, _≤_, _<_}
 use Prim.Native.String.{String}
-use lib.ListN.{length, drop}
+use lib.ListN.{length}
 use Rattle.words.specs.declared.Comparison.the-variants.{Above}
 use Rattle.words.specs.Word.{Word}
 use Rattle.words.specs.Order.{wordOrder}
@@ -15,34 +15,30 @@ use Rattle.package.specs.Package.{Package}
 use Rattle.package.specs.Examples.{text, packageE}
 use Rattle.services.specs.declared.Shortened.{Shortened}
 use Rattle.services.specs.Services.{checkedAs, listedAs, listedInto, shortenedAs, shortenedInto, membershipAs}
-use Rattle.services.specs.Demands.{AcceptedAs, ReadAs}
+use Rattle.services.specs.Demands.{AcceptedAs, ReadAs, atStart}
 
 -- A row: the bytes of a package, and texts quoted byte for byte.
 pub data Row : Type 0 where
   -- under the package the formula comes to the short form in so many steps
-  short : List ℕ → String → String → ℕ → Row
+  shortRow : List ℕ → String → String → ℕ → Row
   -- the first word is above the second
-  above : String → String → Row
+  aboveRow : String → String → Row
   -- the package has so many overlaps, and this is their list
-  listed : List ℕ → ℕ → String → Row
+  listRow : List ℕ → ℕ → String → Row
   -- the package is accepted and has so many overlaps
-  accepted : List ℕ → ℕ → Row
+  acceptedRow : List ℕ → ℕ → Row
   -- under the package the formula is a member, after so many steps
-  member : List ℕ → String → ℕ → Row
+  memberRow : List ℕ → String → ℕ → Row
   -- under the package the formula, with a budget and an output slice of so many bytes, is refused with number and place
-  refused : List ℕ → String → ℕ → ℕ → ℕ → ℕ → Row
+  refusedRow : List ℕ → String → ℕ → ℕ → ℕ → ℕ → Row
   -- under the package every formula is its own short form
-  keeping : List ℕ → Row
+  keptRow : List ℕ → Row
   -- under the package every formula comes to zero
-  emptying : List ℕ → Row
-
--- A text at the start of an output slice; the bytes after it keep their old values.
-abbrev pub atStart : List ℕ → List ℕ → List ℕ
-atStart t out = t ++ drop (length t) out
+  zeroRow : List ℕ → Row
 
 -- A refusal of the short form service.
-abbrev pub refusal : ℕ → ℕ → Shortened
-refusal n k = record { number = n; place = k; steps = 0; written = 0 }
+abbrev pub refusedShort : ℕ → ℕ → Shortened
+refusedShort n k = record { number = n; place = k; steps = 0; written = 0 }
 
 -- Under the package the formula comes to the short form N in m steps. This says all that the short form service answers and writes for them:
 -- with a budget of m or more and room, success, m steps, the length of N, and N written; with a lesser budget 18 at the budget; with less
@@ -52,9 +48,9 @@ pub record Shortens (bytes formula N : List ℕ) (m : ℕ) : Type 0 where
       → (shortenedAs bytes formula budget (length out) ≡ record { number = 0; place = 0; steps = m; written = length N })
       × (shortenedInto bytes formula budget out ≡ atStart N out)
   pub fewer : (budget : ℕ) (out : List ℕ) → budget < m
-      → (shortenedAs bytes formula budget (length out) ≡ refusal 18 budget) × (shortenedInto bytes formula budget out ≡ out)
+      → (shortenedAs bytes formula budget (length out) ≡ refusedShort 18 budget) × (shortenedInto bytes formula budget out ≡ out)
   pub narrow : (budget : ℕ) (out : List ℕ) → m ≤ budget → length out < length N
-      → (shortenedAs bytes formula budget (length out) ≡ refusal 19 (length N)) × (shortenedInto bytes formula budget out ≡ out)
+      → (shortenedAs bytes formula budget (length out) ≡ refusedShort 19 (length N)) × (shortenedInto bytes formula budget out ≡ out)
 
 -- The texts say words, `-` the empty one, and the first word is above the second.
 pub record IsAbove (u v : List ℕ) : Type 0 where
@@ -74,8 +70,8 @@ pub record Lists (bytes : List ℕ) (count : ℕ) (list : List ℕ) : Type 0 whe
       → (listedAs bytes (length out) ≡ record { number = 19; place = length list; overlaps = 0; written = 0 }) × (listedInto bytes out ≡ out)
 
 -- The check answers success and the count.
-pub record Accepts (bytes : List ℕ) (count : ℕ) : Type 0 where
-  pub answer : checkedAs bytes ≡ record { number = 0; place = 0; overlaps = count }
+pub record IsAccepted (bytes : List ℕ) (count : ℕ) : Type 0 where
+  pub answered : checkedAs bytes ≡ record { number = 0; place = 0; overlaps = count }
 
 -- Membership answers success, m steps and yes with a budget of m or more, and 18 at the budget with a lesser one.
 pub record IsMember (bytes formula : List ℕ) (m : ℕ) : Type 0 where
@@ -85,45 +81,45 @@ pub record IsMember (bytes formula : List ℕ) (m : ℕ) : Type 0 where
 -- The short form service refuses with number n and place k, and leaves the output slice, of so many bytes, as it was.
 pub record Refuses (bytes formula : List ℕ) (budget room n k : ℕ) : Type 0 where
   pub kept : (out : List ℕ) → length out ≡ room
-      → (shortenedAs bytes formula budget room ≡ refusal n k) × (shortenedInto bytes formula budget out ≡ out)
+      → (shortenedAs bytes formula budget room ≡ refusedShort n k) × (shortenedInto bytes formula budget out ≡ out)
 
 -- The package is accepted, and every formula, as bytes that read, is its own short form, with no step.
 pub record Keeps (bytes : List ℕ) : Type 0 where
   pub content : Package
   pub accepted : AcceptedAs bytes content
-  pub same : (formula : List ℕ) (f : Poly) → ReadAs content formula f → Shortens bytes formula formula 0
+  pub unchanged : (formula : List ℕ) (f : Poly) → ReadAs content formula f → Shortens bytes formula formula 0
 
 -- The package is accepted, and every formula, as bytes that read, comes to zero, with a step for each of its terms.
 pub record Empties (bytes : List ℕ) : Type 0 where
   pub content : Package
   pub accepted : AcceptedAs bytes content
-  pub zero : (formula : List ℕ) (f : Poly) → ReadAs content formula f → Shortens bytes formula (ascii "coef word\n") (length f)
+  pub to-zero : (formula : List ℕ) (f : Poly) → ReadAs content formula f → Shortens bytes formula (ascii "coef word\n") (length f)
 
 -- What a row states.
 unfoldable pub Claim : Row → Type 0
-Claim (short bytes f N m) = Shortens bytes (ascii f) (ascii N) m
-Claim (above u v) = IsAbove (ascii u) (ascii v)
-Claim (listed bytes count list) = Lists bytes count (ascii list)
-Claim (accepted bytes count) = Accepts bytes count
-Claim (member bytes f m) = IsMember bytes (ascii f) m
-Claim (refused bytes f budget room n k) = Refuses bytes (ascii f) budget room n k
-Claim (keeping bytes) = Keeps bytes
-Claim (emptying bytes) = Empties bytes
+Claim (shortRow bytes f N m) = Shortens bytes (ascii f) (ascii N) m
+Claim (aboveRow u v) = IsAbove (ascii u) (ascii v)
+Claim (listRow bytes count list) = Lists bytes count (ascii list)
+Claim (acceptedRow bytes count) = IsAccepted bytes count
+Claim (memberRow bytes f m) = IsMember bytes (ascii f) m
+Claim (refusedRow bytes f budget room n k) = Refuses bytes (ascii f) budget room n k
+Claim (keptRow bytes) = Keeps bytes
+Claim (zeroRow bytes) = Empties bytes
 
 -- The rows that 01 marks †, in its order. All are about E.
 unfoldable pub examples : List Row
 examples =
-    short packageE "coef word\n1 aaa\n" "coef word\n1 ba\n" 1
-    ∷ short packageE "coef word\n1 aba\n" "coef word\n1 bb\n" 2
-    ∷ short packageE "coef word\n1 abab\n" "coef word\n1 bbb\n" 2
-    ∷ short packageE "coef word\n1 aba\n6 bb\n" "coef word\n" 2
-    ∷ short packageE "coef word\n1 bba\n" "coef word\n1 bba\n" 0
-    ∷ short packageE "coef word\n1 ab\n" "coef word\n1 ba\n" 1
-    ∷ above "ab" "ba"
-    ∷ above "aa" "b"
-    ∷ above "a" "-"
-    ∷ listed packageE 2 "item first second shared word\n1 1 1 1 aaa\n2 1 2 1 aab\n"
-    ∷ accepted packageE 2
+    shortRow packageE "coef word\n1 aaa\n" "coef word\n1 ba\n" 1
+    ∷ shortRow packageE "coef word\n1 aba\n" "coef word\n1 bb\n" 2
+    ∷ shortRow packageE "coef word\n1 abab\n" "coef word\n1 bbb\n" 2
+    ∷ shortRow packageE "coef word\n1 aba\n6 bb\n" "coef word\n" 2
+    ∷ shortRow packageE "coef word\n1 bba\n" "coef word\n1 bba\n" 0
+    ∷ shortRow packageE "coef word\n1 ab\n" "coef word\n1 ba\n" 1
+    ∷ aboveRow "ab" "ba"
+    ∷ aboveRow "aa" "b"
+    ∷ aboveRow "a" "-"
+    ∷ listRow packageE 2 "item first second shared word\n1 1 1 1 aaa\n2 1 2 1 aab\n"
+    ∷ acceptedRow packageE 2
     ∷ []
 
 -- No relations and no basis.
@@ -149,16 +145,16 @@ packageOne = text (
 -- Rows that 01 does not mark †: its inputs for 16, 18 and 19, and edges. The second says that budget 2, and every greater one, suffices for `aba`.
 unfoldable pub edges : List Row
 edges =
-    refused packageE "coef word\n1 aba\n" 1 65536 18 1
-    ∷ short packageE "coef word\n1 aba\n" "coef word\n1 bb\n" 2
-    ∷ refused packageE "coef word\n1 ab\n" 4294967295 10 19 15
-    ∷ refused packageE "coef word\n0 a\n" 4294967295 65536 16 2
-    ∷ member packageE "coef word\n" 0
-    ∷ member packageE "coef word\n1 aba\n6 bb\n" 2
-    ∷ accepted packageNone 0
-    ∷ short packageNone "coef word\n1 aba\n6 bb\n" "coef word\n1 aba\n6 bb\n" 0
-    ∷ keeping packageNone
-    ∷ accepted packageOne 0
-    ∷ short packageOne "coef word\n1 aba\n6 bb\n" "coef word\n" 2
-    ∷ emptying packageOne
+    refusedRow packageE "coef word\n1 aba\n" 1 65536 18 1
+    ∷ shortRow packageE "coef word\n1 aba\n" "coef word\n1 bb\n" 2
+    ∷ refusedRow packageE "coef word\n1 ab\n" 4294967295 10 19 15
+    ∷ refusedRow packageE "coef word\n0 a\n" 4294967295 65536 16 2
+    ∷ memberRow packageE "coef word\n" 0
+    ∷ memberRow packageE "coef word\n1 aba\n6 bb\n" 2
+    ∷ acceptedRow packageNone 0
+    ∷ shortRow packageNone "coef word\n1 aba\n6 bb\n" "coef word\n1 aba\n6 bb\n" 0
+    ∷ keptRow packageNone
+    ∷ acceptedRow packageOne 0
+    ∷ shortRow packageOne "coef word\n1 aba\n6 bb\n" "coef word\n" 2
+    ∷ zeroRow packageOne
     ∷ []

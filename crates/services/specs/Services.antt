@@ -7,7 +7,7 @@ use lib.Dec.{ltb}
 use lib.ListN.{length}
 use lib.Seq.{sets}
 use Rattle.words.specs.Word.{Word}
-use Rattle.package.specs.Package.{Package, Outcome, refused, read, readPackage}
+use Rattle.package.specs.Package.{Outcome, refused, read, readPackage}
 use Rattle.package.specs.Writing.{writeFormula}
 use Rattle.overlaps.specs.Overlaps.{leads, overlaps}
 use Rattle.overlaps.specs.Listing.{overlapText}
@@ -20,7 +20,7 @@ use Rattle.services.specs.declared.Listed.{Listed}
 use Rattle.services.specs.declared.Shortened.{Shortened}
 use Rattle.services.specs.declared.Membership.{Membership}
 
--- Listing judges refusals 1 to 9 and 19 only.
+-- Listing judges refusals 1 to 9 and 19 only. This is what the package's bytes are before 19: refused by one of 1 to 9, or the package.
 unfoldable pub listable : List ℕ → Outcome
 unfolding judgedBy readPackage basisJudged basis
 listable bytes = judgedBy (λ P. basisJudged (basis P)) (readPackage bytes)
@@ -44,6 +44,7 @@ wordsListed room ws = elim (ltb room (length (overlapText ws))) [
   | false ↦ record { number = 0; place = 0; overlaps = length (overlaps ws); written = length (overlapText ws) }
 ]
 
+-- Listing's answer for what its bytes were judged to be, and an output slice of so many bytes.
 unfoldable pub listAnswer : ℕ → Outcome → Listed
 unfolding wordsListed leads basis
 listAnswer room (refused n k) = record { number = n; place = k; overlaps = 0; written = 0 }
@@ -58,12 +59,13 @@ listedAs bytes room = listAnswer room (listable bytes)
 unfoldable pub fitted : List ℕ → List ℕ → List ℕ
 fitted text out = elim (ltb (length out) (length text)) [ true ↦ out | false ↦ sets out 0 text ]
 
+-- The output slice after listing: unchanged by a refusal, else with the list at its start where it fits.
 unfoldable pub listOutput : List ℕ → Outcome → List ℕ
 unfolding fitted leads basis overlapText
 listOutput out (refused n k) = out
 listOutput out (read P) = fitted (overlapText (leads (basis P))) out
 
--- The output slice after listing.
+-- The output slice after listing, for the package's bytes.
 unfoldable pub listedInto : List ℕ → List ℕ → List ℕ
 unfolding listOutput listable
 listedInto bytes out = listOutput out (listable bytes)
@@ -82,12 +84,13 @@ unfoldable pub shortenedAs : List ℕ → List ℕ → ℕ → ℕ → Shortened
 unfolding shortAnswer reduction
 shortenedAs bytes text budget room = shortAnswer room (reduction bytes text budget)
 
+-- The output slice after the short form service: unchanged by a refusal, else with the short form at its start where it fits.
 unfoldable pub shortOutput : List ℕ → Reduction → List ℕ
 unfolding fitted writeFormula
 shortOutput out (refusedBy n k) = out
 shortOutput out (shortForm N m) = fitted (writeFormula N) out
 
--- The output slice after the short form service.
+-- The output slice after the short form service, for the package's bytes, the formula's bytes and a budget.
 unfoldable pub shortenedInto : List ℕ → List ℕ → ℕ → List ℕ → List ℕ
 unfolding shortOutput reduction
 shortenedInto bytes text budget out = shortOutput out (reduction bytes text budget)
