@@ -19,7 +19,7 @@ ghost use Rattle.leads.specs.Index.{Blank};
 ghost use Rattle.shortform.specs.Basis.{LeadsOf};
 ghost use Rattle.working.specs.Working.{Room};
 ghost use Rattle.sumlines.specs.Room.{Places};
-ghost use Rattle.checking.specs.Answer.{basisIn};
+ghost use Rattle.sumorder.specs.Slices.{basisIn};
 ghost use Rattle.accepting.specs.Slices.{PackageAccepted};
 ghost use Rattle.acceptance.specs.Reduction.{reduction};
 ghost use Rattle.reducing.specs.Slices as lying;

@@ -13,10 +13,11 @@ use Rattle.algebra.specs.Poly.{Poly}
 use Rattle.algebra.specs.Written.{written}
 use Rattle.algebra.specs.Ideal.{Family, family}
 use Rattle.overlaps.specs.Overlaps.{Overlap, leads, overlaps, overlapWord, difference}
+use Rattle.package.specs.Names.{sumB, sumG, sumO}
 use Rattle.package.specs.Sums.{SumLine}
 use Rattle.package.specs.Package.{Package}
 use Rattle.acceptance.specs.Content.{relations, basis, sumOf}
-use Rattle.acceptance.specs.Check.{Verdict, refusal, fine, thenJudge, leadsJudged, holdsOther, apartJudged, Left, over, rest, lessLines, sumVerdict, sumsJudged, itemsJudged, Certified, notBelow, certified, lessBelow, overlapVerdict, overlapsJudged, basisJudged, sumsVerdict, checked}
+use Rattle.acceptance.specs.Check.{Verdict, refusal, fine, thenJudge, leadsJudged, holdsOther, apartJudged, Left, fails, over, rest, less, anyLine, isUnder, sumVerdict, sumsJudged, sides, kindsJudged, itemsJudged, overlapsJudged, basisJudged, sumsVerdict, checked}
 
 some : {n : ℕ} → suc n ≡ 0 → ⊥
 some e = omega arith
@@ -51,6 +52,7 @@ apart-number all (u ∷ us) i = go (holdsOther u i all 1) (apart-number all us (
 
 left-number : (n i : ℕ) (l : Left) → Judged (sumVerdict (suc n) i l)
 unfolding Judged sumVerdict
+left-number n i (fails k) = some
 left-number n i (over k) = some
 left-number n i (rest []) = tt
 left-number n i (rest (t ∷ f)) = some
@@ -59,13 +61,19 @@ sums-number : (n k : ℕ) (K : Operations) (O : Order) (G : Family) (ss : List S
 unfolding Judged sumsJudged
 sums-number n k K O G ss [] i = tt
 sums-number n k K O G ss (f ∷ fs) i =
-    then-number (sumVerdict (suc n) i (lessLines K O G f (sumOf k i ss))) (sumsJudged (suc n) k K O G ss fs (suc i))
-    (left-number n i (lessLines K O G f (sumOf k i ss))) (sums-number n k K O G ss fs (suc i))
+    then-number (sumVerdict (suc n) i (less anyLine K O G f (sumOf k i ss))) (sumsJudged (suc n) k K O G ss fs (suc i))
+    (left-number n i (less anyLine K O G f (sumOf k i ss))) (sums-number n k K O G ss fs (suc i))
+
+kinds-number : (K : Operations) (O : Order) (rs ps : List Poly) (ss : List SumLine) → Judged (kindsJudged K O ss (sides rs ps))
+unfolding kindsJudged Judged
+kinds-number K O rs ps ss =
+    then-number (sumsJudged 11 sumB K O (family rs) ss ps 1) _ (sums-number 10 sumB K O (family rs) ss ps 1)
+    (then-number (sumsJudged 12 sumG K O (family ps) ss rs 1) fine (sums-number 11 sumG K O (family ps) ss rs 1) tt)
 
 items-number : (count : ℕ) (ss : List SumLine) → Judged (itemsJudged count ss)
 unfolding Judged itemsJudged
 items-number count [] = tt
-items-number count (s ∷ ss) = go (eqb (s .kind) 3) (ltb count (s .item)) (items-number count ss)
+items-number count (s ∷ ss) = go (eqb (s .kind) sumO) (ltb count (s .item)) (items-number count ss)
   where
     go : (b c : Bool) → Judged (itemsJudged count ss)
         → Judged (elim b [ false ↦ itemsJudged count ss | true ↦ elim c [ true ↦ refusal 15 (s .line) | false ↦ itemsJudged count ss ] ])
@@ -73,17 +81,12 @@ items-number count (s ∷ ss) = go (eqb (s .kind) 3) (ltb count (s .item)) (item
     go true true x = some
     go true false x = x
 
-overlap-number : (i : ℕ) (c : Certified) → Judged (overlapVerdict i c)
-unfolding Judged overlapVerdict
-overlap-number i (notBelow k) = some
-overlap-number i (certified l) = left-number 12 i l
-
 overlaps-number : (K : Operations) (O : Order) (G : Family) (ss : List SumLine) (os : List Overlap) (i : ℕ) → Judged (overlapsJudged K O G ss os i)
 unfolding Judged overlapsJudged
 overlaps-number K O G ss [] i = tt
 overlaps-number K O G ss (o ∷ os) i =
-    let c = lessBelow K O G (overlapWord G o) (written K O (difference K G o)) (sumOf 3 i ss) in
-    then-number (overlapVerdict i c) (overlapsJudged K O G ss os (suc i)) (overlap-number i c) (overlaps-number K O G ss os (suc i))
+    let l = less (isUnder O G (overlapWord G o)) K O G (written K O (difference K G o)) (sumOf sumO i ss) in
+    then-number (sumVerdict 13 i l) (overlapsJudged K O G ss os (suc i)) (left-number 12 i l) (overlaps-number K O G ss os (suc i))
 
 pub basis-number : (ps : List Poly) → Judged (basisJudged ps)
 unfolding basisJudged
@@ -97,7 +100,6 @@ check-number P =
     let ps = basis P in
     let ss = P .sums in
     then-number (basisJudged ps) _ (basis-number ps)
-    (then-number (sumsJudged 11 1 K wordOrder (family rs) ss ps 1) _ (sums-number 10 1 K wordOrder (family rs) ss ps 1)
-    (then-number (sumsJudged 12 2 K wordOrder (family ps) ss rs 1) _ (sums-number 11 2 K wordOrder (family ps) ss rs 1)
+    (then-number (kindsJudged K wordOrder ss (sides rs ps)) _ (kinds-number K wordOrder rs ps ss)
     (then-number (itemsJudged (length (overlaps (leads ps))) ss) _ (items-number (length (overlaps (leads ps))) ss)
-    (overlaps-number K wordOrder (family ps) ss (overlaps (leads ps)) 1))))
+    (overlaps-number K wordOrder (family ps) ss (overlaps (leads ps)) 1)))

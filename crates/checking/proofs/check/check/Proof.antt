@@ -1,8 +1,10 @@
-use borrow.Author.Needs.{needs}
 -- `check` judges 8 and 9, and then the sums.
+use borrow.Author.Needs.{needs}
 use mathlib.Core.Path.{_≡_, sym, ap, _∙_}
 use Rattle.sumlines.proofs.Sizes.{ready-started}
-use Rattle.checking.proofs.Joined.{then-refused, then-fine, answer-refused, answer-same, basis-refused, basis-sound, heads-sound}
+use Rattle.sumorder.proofs.Row.{then-refused, then-fine}
+use Rattle.overlapchecking.proofs.Answers.{answer-refused, answer-same}
+use Rattle.checking.proofs.Joined.{basis-refused, basis-sound, heads-sound}
 use Rattle.checking.proofs.check.check.Statement.{statement}
 use Rattle.checking.proofs.check.check.Tie as tie
 
