@@ -11,12 +11,13 @@ ghost use lib.ListN.{length};
 ghost use Rattle.field.specs.Field.{fieldOf};
 ghost use Rattle.words.specs.Order.{wordOrder};
 ghost use Rattle.overlaps.specs.Overlaps.{leads, overlaps};
-ghost use Rattle.acceptance.specs.Check.{sumsVerdict};
+ghost use Rattle.acceptance.specs.Check.{sides};
 ghost use Rattle.sumlines.specs.Heads.{HeadsOf};
 ghost use Rattle.sumlines.specs.Lines.{sumsAt};
 ghost use Rattle.sumlines.specs.Room.{Ready};
 ghost use Rattle.sumorder.specs.Slices.{relationsIn, basisIn, PackageLies};
 ghost use Rattle.sumorder.specs.Reached.{SumsStart};
+ghost use Rattle.sumorder.specs.Row.{rowVerdict};
 ghost use Rattle.overlapchecking.specs.Answer.{answerOf};
 
 // The B sums over the relations (10 and 11), then what follows them: the G sums, 15 and the sums of the overlaps. c, l, w, o, buf and lap are scratch.
@@ -47,7 +48,9 @@ pub fn judge_package(
     ensures { λ r. ⌜
         r
         ≡ answerOf
-        (sumsVerdict (fieldOf (h .p)) wordOrder (relationsIn h (now (coefs .entry)) (now (starts .entry)) (now (lens .entry)) (now (bytes .entry)) (now (firsts .entry))) (basisIn h (now (coefs .entry)) (now (starts .entry)) (now (lens .entry)) (now (bytes .entry)) (now (firsts .entry))) (sumsAt (now (bytes .entry)) at line))
+        (rowVerdict (fieldOf (h .p)) wordOrder
+        (sides (relationsIn h (now (coefs .entry)) (now (starts .entry)) (now (lens .entry)) (now (bytes .entry)) (now (firsts .entry))) (basisIn h (now (coefs .entry)) (now (starts .entry)) (now (lens .entry)) (now (bytes .entry)) (now (firsts .entry))))
+        (basisIn h (now (coefs .entry)) (now (starts .entry)) (now (lens .entry)) (now (bytes .entry)) (now (firsts .entry))) (sumsAt (now (bytes .entry)) at line))
         (length (overlaps (leads (basisIn h (now (coefs .entry)) (now (starts .entry)) (now (lens .entry)) (now (bytes .entry)) (now (firsts .entry))))))
         ⌝ }
 {

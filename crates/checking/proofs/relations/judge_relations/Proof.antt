@@ -10,9 +10,7 @@ use Rattle.working.proofs.Sizes.{kept-sizes}
 use Rattle.sumlines.proofs.Sizes.{kept-ready}
 use Rattle.sumorder.proofs.KindOrder.{relations-over, reached-next}
 use Rattle.sumorder.proofs.PackageSides.{relation-side}
-use Rattle.sumorder.proofs.Row.{then-refused, then-fine, row-first, row-past}
-use Rattle.overlapchecking.proofs.Answers.{answer-refused, answer-same}
-use Rattle.checking.proofs.Joined.{sums-refused, sums-passed, sums-left}
+use Rattle.checking.proofs.Joined.{row-refused, row-passed, sums-left}
 use Rattle.checking.proofs.relations.judge_relations.Statement.{statement}
 use Rattle.checking.proofs.relations.judge_relations.Tie as tie
 
@@ -58,7 +56,7 @@ same-length-5 : tie.Need-same-length-5
 same-length-5 c = search needs
 
 returns : tie.Need-returns
-returns c = answer-refused _ _ _ _ (row-first _ _ _ _ _ _ ∙ then-refused _ _ _ _ (sums-refused _ _ (c .before .before .before .before .before .before .before .before .before .before .before .before .before .judge-sums .ensures .0) _ _ (c .before .r .given .1)))
+returns c = row-refused _ _ _ _ _ _ _ _ _ _ _ (c .before .before .before .before .before .before .before .before .before .before .before .before .before .judge-sums .ensures .0) _ _ (c .before .r .given .1)
 
 same-length-6 : tie.Need-same-length-6
 same-length-6 c = search needs
@@ -83,7 +81,7 @@ returns-2 c =
     let e = c .before .before .before .before .before .before .before .before .before .before .before .before .before .before .before .before .before .before .before .before .before .before .before .before .before .before .before .before .before .before .before .before .judge-sums .ensures in
     let q = c .before .before .before .before .before .before .before .before .before .before .before .before .before .before .before .before .before .before .before .before .r2 .given .1 in
     let d : _≢_ {A = ℕ} sumG sumO = λ x. omega arith in
-    answer-same _ _ _ _ (c .before .before .before .before .before .before .before .before .before .before .before .before .judge-laps .ensures) (row-first _ _ _ _ _ _ ∙ then-fine _ _ (sums-passed _ _ (e .0) _ _ q) ∙ row-past _ _ sumG _ _ d done (sums-left _ _ _ _ _ _ _ _ q (e .1 .0) .1))
+    row-passed _ _ _ _ _ _ _ _ _ _ _ (e .0) _ _ q d done _ (sums-left _ _ _ _ _ _ _ _ q (e .1 .0) .1) _ (c .before .before .before .before .before .before .before .before .before .before .before .before .judge-laps .ensures)
 
 pub judge-relations-spec : {M : Type 1} → statement M
 judge-relations-spec =
