@@ -23,6 +23,7 @@ use Rattle.algebra.proofs.WrittenForm.{written-led}
 use Rattle.overlaps.specs.Overlaps.{Overlap, Overlapping, IsOverlap, leads, overlaps}
 use Rattle.overlaps.proofs.Listed.{listed-iff}
 use Rattle.overlaps.proofs.Certification.{lead-of, Certifies, overlaps-resolved, inclusions-none}
+use Rattle.package.specs.Names.{sumB, sumG, sumO}
 use Rattle.package.specs.Sums.{SumLine}
 use Rattle.acceptance.specs.Content.{lineOf, sumOf, linesOf}
 use Rattle.acceptance.specs.Facts.{SumHolds, overlapAt, Facts}
@@ -92,7 +93,7 @@ module _ {L : ℕ → Type 0} {K : Operations} (F : Field K) {O : Order} (A : Ad
     where
       go : (i : ℕ) × (i < length (overlaps (leads ps))) × (getD (overlaps (leads ps)) i (record { first = 0; second = 0; shared = 0 }) ≡ o) → Certifies F A (family ps) o
       go (i, l, e) = subst (Certifies F A (family ps)) e (record {
-        lines = linesOf (sumOf 3 (suc i) ss);
+        lines = linesOf (sumOf sumO (suc i) ss);
         below = h .overlap-below i l;
         equal = h .overlap-sums i l .equal;
       })
@@ -112,6 +113,6 @@ module _ {L : ℕ → Type 0} {K : Operations} (F : Field K) {O : Order} (A : Ad
       overlaps = overlaps-resolved F A (family ps) leads-with-one certifies;
       inclusions = inclusions-none F A (family ps) none-inside;
     };
-    basis-sums = sums (family rs) ps 1 (h .basis-sums);
-    relation-sums = sums (family ps) rs 2 (h .relation-sums);
+    basis-sums = sums (family rs) ps sumB (h .basis-sums);
+    relation-sums = sums (family ps) rs sumG (h .relation-sums);
   }

@@ -1,5 +1,9 @@
 -- That the check answers no refusal exactly where the facts of acceptance hold.
+pub mod Verdicts
 pub mod Remaining
+pub mod BasisFacts
+pub mod SumFacts
+pub mod LinesTaken
 pub mod AcceptedIff
 pub mod Accepted
 pub mod LineFacts

@@ -20,6 +20,7 @@ use Rattle.algebra.specs.Poly.{Term, Poly, InLetters}
 use Rattle.algebra.specs.Written as W
 use Rattle.algebra.specs.Written.{Written}
 use Rattle.algebra.specs.Ideal.{Over}
+use Rattle.package.specs.Names.{termG, termB}
 use Rattle.package.specs.declared.Head.{Head}
 use Rattle.package.specs.declared.Limits.{Limits}
 use Rattle.package.specs.Items.{itemTerms}
@@ -169,29 +170,29 @@ module _ (P : Package) (r : Readable P) where
 
   pub relations-written : All (Written (fieldOf (P .head .p)) wordOrder) (relations P)
   unfolding relations
-  relations-written = polynomials-all (Written (fieldOf (P .head .p)) wordOrder) 1 (P .terms) (λ i. item-both 1 i .0) 1 (P .head .gens)
+  relations-written = polynomials-all (Written (fieldOf (P .head .p)) wordOrder) termG (P .terms) (λ i. item-both termG i .0) 1 (P .head .gens)
 
   pub basis-written : All (Written (fieldOf (P .head .p)) wordOrder) (basis P)
   unfolding basis
-  basis-written = polynomials-all (Written (fieldOf (P .head .p)) wordOrder) 2 (P .terms) (λ i. item-both 2 i .0) 1 (P .head .basis)
+  basis-written = polynomials-all (Written (fieldOf (P .head .p)) wordOrder) termB (P .terms) (λ i. item-both termB i .0) 1 (P .head .basis)
 
   pub relations-letters : All (InLetters (Letter (P .head .letters))) (relations P)
   unfolding relations
-  relations-letters = polynomials-all (InLetters (Letter (P .head .letters))) 1 (P .terms) (λ i. item-both 1 i .1) 1 (P .head .gens)
+  relations-letters = polynomials-all (InLetters (Letter (P .head .letters))) termG (P .terms) (λ i. item-both termG i .1) 1 (P .head .gens)
 
   pub basis-letters : All (InLetters (Letter (P .head .letters))) (basis P)
   unfolding basis
-  basis-letters = polynomials-all (InLetters (Letter (P .head .letters))) 2 (P .terms) (λ i. item-both 2 i .1) 1 (P .head .basis)
+  basis-letters = polynomials-all (InLetters (Letter (P .head .letters))) termB (P .terms) (λ i. item-both termB i .1) 1 (P .head .basis)
 
   -- words of the basis have at most 24 letters
   pub basis-short : All (λ f. All (λ t. length (t .word) ≤ 24) f) (basis P)
   unfolding basis polynomial
-  basis-short = polynomials-all (λ f. All (λ t. length (t .word) ≤ 24) f) 2 (P .terms) (λ i. item-short 2 i (P .head) packageLimits (P .terms) (r .terms)) 1 (P .head .basis)
+  basis-short = polynomials-all (λ f. All (λ t. length (t .word) ≤ 24) f) termB (P .terms) (λ i. item-short termB i (P .head) packageLimits (P .terms) (r .terms)) 1 (P .head .basis)
 
   -- the basis has at most 64 polynomials
   pub basis-few : length (basis P) ≤ 64
   unfolding basis
-  basis-few = rw (polynomials-length 2 (P .terms) 1 (P .head .basis)) (head-bounds (P .head) (r .prime) (r .counts) .basis)
+  basis-few = rw (polynomials-length termB (P .terms) 1 (P .head .basis)) (head-bounds (P .head) (r .prime) (r .counts) .basis)
 
   pub sums-letters : All (λ s. Over (Letter (P .head .letters)) (lineOf s)) (P .sums)
   sums-letters = sums-over (P .head) packageLimits (P .sums) (r .sums)

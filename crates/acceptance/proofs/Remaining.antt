@@ -1,6 +1,7 @@
--- Lines taken away one after the other: nothing is left exactly if the sum equals the target, and 10 is met exactly if some line leaves over 512 terms.
+-- Lines taken away one after the other: nothing is left exactly if the sum equals the target, 10 is met exactly if some line leaves over 512 terms,
+-- and an item is not refused exactly if every line passes its test and the sum holds.
 use mathlib.Core.Path.{_≡_, refl, sym, _∙_, ap}
-use mathlib.Core.Bool.{Bool, true, false}
+use mathlib.Core.Bool.{Bool, true, false, true≢false}
 use mathlib.Core.Logic.{_↔_, _⊎_, inl, inr}
 use mathlib.Core.List.{List, [], _∷_, _++_, append-nil, cons≢nil, cons-eq-cons}
 use Prim.Native.Nat.{ℕ, _≤_, _<_}
@@ -10,6 +11,7 @@ use lib.ListN.{length}
 use borrow.Author.Tests.{ltb-true, ltb-false, le-ltb}
 use Rattle.field.specs.Field.{Operations, Field}
 use Rattle.field.proofs.Derived.{sub-self, mul-zero, eq-of-sub-eq-zero}
+use Rattle.lists.specs.All.{All, done, _also_}
 use Rattle.words.specs.Word.{Word}
 use Rattle.words.specs.Order.{Order, Admissible}
 use Rattle.algebra.specs.Poly.{Poly, coeff, Same, sub}
@@ -22,8 +24,9 @@ use Rattle.algebra.proofs.WrittenForm.{written-unique}
 use Rattle.algebra.proofs.Running.{takeAway-coeff, takeAway-written}
 use Rattle.package.specs.Sums.{SumLine}
 use Rattle.acceptance.specs.Content.{lineOf, linesOf}
-use Rattle.acceptance.specs.Check.{Verdict, refusal, fine, Left, over, rest, lessLines, sumVerdict}
-use Rattle.acceptance.specs.Facts.{Roomy, SumHolds}
+use Rattle.acceptance.specs.Check.{fine, Left, fails, over, rest, less, sumVerdict}
+use Rattle.acceptance.specs.Facts.{FewTerms, SumHolds}
+use Rattle.acceptance.proofs.Verdicts.{refusal-not-fine}
 
 module _ (K : Operations) (O : Order) (G : Family) where
   -- what is left of f when the lines are taken away, in order
@@ -84,54 +87,67 @@ module _ {K : Operations} (F : Field K) {O : Order} (A : Admissible O) (G : Fami
   small-by f [] h = none
   small-by f (x ∷ xs) h = line (h [] x xs refl) (small-by (takeAway K O G f x) xs (λ b y a e. h (x ∷ b) y a (ap (x ∷_) e)))
 
-  roomy-small : (f : Poly) (xs : List Line) → Written K O f → Roomy K O G f xs ↔ Small f xs
-  roomy-small f xs c = (
+  few-small : (f : Poly) (xs : List Line) → Written K O f → FewTerms K O G f xs ↔ Small f xs
+  few-small f xs c = (
     λ r. small-by f xs (λ b x a e. r b x a e (remaining K O G f (b ++ (x ∷ []))) (remaining-written f (b ++ (x ∷ [])) c) (remaining-coeff f (b ++ (x ∷ [])))),
     λ s b x a e g w t. rw (written-unique F A w (remaining-written f (b ++ (x ∷ [])) c) (λ u. t u ∙ sym (remaining-coeff f (b ++ (x ∷ [])) u))) (small-at s b x a e),
   )
 
-  -- what the computation with sum lines gives
-  Gives : Poly → List SumLine → Left → Type 0
-  Gives f ss (rest g) = Small f (linesOf ss) × (g ≡ remaining K O G f (linesOf ss))
-  Gives f ss (over n) = Small f (linesOf ss) → ⊥
+  -- what the computation with sum lines gives: a line that fails the test, one that leaves too many terms, or what remains
+  module _ (test : Line → Bool) where
+    Passes : List SumLine → Type 0
+    Passes ss = All (λ x. test x ≡ true) (linesOf ss)
 
-  gives : (f : Poly) (ss : List SumLine) → Gives f ss (lessLines K O G f ss)
-  unfolding Gives lessLines linesOf remaining
-  gives f [] = (none, refl)
-  gives f (s ∷ ss) = go (ltb 512 (length g)) refl (lessLines K O G g ss) (gives g ss)
-    where
-      g : Poly
-      g = takeAway K O G f (lineOf s)
+    Gives : Poly → List SumLine → Left → Type 0
+    Gives f ss (fails n) = Passes ss → ⊥
+    Gives f ss (over n) = Small f (linesOf ss) → ⊥
+    Gives f ss (rest g) = Passes ss × (Small f (linesOf ss) × (g ≡ remaining K O G f (linesOf ss)))
 
-      not-small : length g ≤ 512 → (Small g (linesOf ss) → ⊥) → Small f (lineOf s ∷ linesOf ss) → ⊥
-      not-small h n (line a b) = n b
+    gives : (f : Poly) (ss : List SumLine) → Gives f ss (less test K O G f ss)
+    unfolding Passes Gives less linesOf remaining
+    gives f [] = (done, (none, refl))
+    gives f (s ∷ ss) = go (test (lineOf s)) refl (ltb 512 (length g)) refl (less test K O G g ss) (gives g ss)
+      where
+        g : Poly
+        g = takeAway K O G f (lineOf s)
 
-      too-long : 512 < length g → Small f (lineOf s ∷ linesOf ss) → ⊥
-      too-long h (line a b) = omega arith
+        first : Passes (s ∷ ss) → test (lineOf s) ≡ true
+        first (p also ps) = p
 
-      more : length g ≤ 512 → (o : Left) → Gives g ss o → Gives f (s ∷ ss) o
-      more h (rest x) (a, b) = (line h a, b)
-      more h (over n) k = not-small h k
+        later : Passes (s ∷ ss) → Passes ss
+        later (p also ps) = ps
 
-      go : (t : Bool) → ltb 512 (length g) ≡ t → (o : Left) → Gives g ss o → Gives f (s ∷ ss) (elim t [ true ↦ over (s .line) | false ↦ o ])
-      go true e o k = too-long (ltb-true 512 (length g) e)
-      go false e o k = more (ltb-false 512 (length g) e) o k
+        few : Small f (lineOf s ∷ linesOf ss) → length g ≤ 512
+        few (line a b) = a
 
-  -- a sum is not refused exactly if it holds
-  pub sum-iff : (n i : ℕ) (f : Poly) (ss : List SumLine) → Written K O f
-      → (sumVerdict n i (lessLines K O G f ss) ≡ fine) ↔ SumHolds K O G f (linesOf ss)
-  unfolding Gives sumVerdict
-  sum-iff n i f ss c = (to (lessLines K O G f ss) (gives f ss), from (lessLines K O G f ss) (gives f ss))
-    where
-      clash : {a b : ℕ} → refusal a b ≡ fine → ⊥
-      clash e = let z : _≡_ {A = ℕ} 0 1 = cc in omega arith
+        fewer : Small f (lineOf s ∷ linesOf ss) → Small g (linesOf ss)
+        fewer (line a b) = b
 
-      to : (o : Left) → Gives f ss o → sumVerdict n i o ≡ fine → SumHolds K O G f (linesOf ss)
-      to (over m) k e = absurd (clash e)
-      to (rest []) (a, b) e = record { equal = remaining-zero f (linesOf ss) c .0 (sym b); roomy = roomy-small f (linesOf ss) c .1 a }
-      to (rest (t ∷ g)) k e = absurd (clash e)
+        more : test (lineOf s) ≡ true → length g ≤ 512 → (o : Left) → Gives g ss o → Gives f (s ∷ ss) o
+        more t h (fails n) k = λ p. k (later p)
+        more t h (over n) k = λ p. k (fewer p)
+        more t h (rest x) (a, (b, c)) = (t also a, (line h b, c))
 
-      from : (o : Left) → Gives f ss o → SumHolds K O G f (linesOf ss) → sumVerdict n i o ≡ fine
-      from (over m) k h = absurd (k (roomy-small f (linesOf ss) c .0 (h .roomy)))
-      from (rest []) k h = refl
-      from (rest (t ∷ g)) (a, b) h = absurd (cons≢nil (b ∙ remaining-zero f (linesOf ss) c .1 (h .equal)))
+        go : (t : Bool) → test (lineOf s) ≡ t → (u : Bool) → ltb 512 (length g) ≡ u → (o : Left) → Gives g ss o
+            → Gives f (s ∷ ss) (elim t [ false ↦ fails (s .line) | true ↦ elim u [ true ↦ over (s .line) | false ↦ o ] ])
+        go false e u d o k = λ p. true≢false (sym (first p) ∙ e)
+        go true e true d o k = λ p. let x = few p in let y = ltb-true 512 (length g) d in omega arith
+        go true e false d o k = more e (ltb-false 512 (length g) d) o k
+
+    -- an item is not refused exactly if every line passes the test and the sum holds
+    pub sum-iff : (n i : ℕ) (f : Poly) (ss : List SumLine) → Written K O f
+        → (sumVerdict n i (less test K O G f ss) ≡ fine) ↔ (All (λ x. test x ≡ true) (linesOf ss) × SumHolds K O G f (linesOf ss))
+    unfolding Passes Gives sumVerdict
+    sum-iff n i f ss c = (to (less test K O G f ss) (gives f ss), from (less test K O G f ss) (gives f ss))
+      where
+        to : (o : Left) → Gives f ss o → sumVerdict n i o ≡ fine → All (λ x. test x ≡ true) (linesOf ss) × SumHolds K O G f (linesOf ss)
+        to (fails m) k e = absurd (refusal-not-fine e)
+        to (over m) k e = absurd (refusal-not-fine e)
+        to (rest []) (a, (b, d)) e = (a, record { equal = remaining-zero f (linesOf ss) c .0 (sym d); few = few-small f (linesOf ss) c .1 b })
+        to (rest (t ∷ g)) k e = absurd (refusal-not-fine e)
+
+        from : (o : Left) → Gives f ss o → All (λ x. test x ≡ true) (linesOf ss) × SumHolds K O G f (linesOf ss) → sumVerdict n i o ≡ fine
+        from (fails m) k h = absurd (k (h .0))
+        from (over m) k h = absurd (k (few-small f (linesOf ss) c .0 (h .1 .few)))
+        from (rest []) k h = refl
+        from (rest (t ∷ g)) (a, (b, d)) h = absurd (cons≢nil (d ∙ remaining-zero f (linesOf ss) c .1 (h .1 .equal)))

@@ -19,6 +19,7 @@ use Rattle.algebra.specs.Poly.{Term, Poly}
 use Rattle.text.specs.Bytes.{within}
 use Rattle.text.specs.Pieces.{part}
 use Rattle.text.proofs.Bytewise.{within-in}
+use Rattle.package.specs.Names.{termG, termB}
 use Rattle.package.specs.declared.Head.{Head}
 use Rattle.package.specs.declared.Limits.{Limits}
 use Rattle.package.specs.declared.Reading.the-variants.{Whole}
@@ -271,35 +272,35 @@ module _ (s ks is cs os ls fs : List ℕ) (h : Head) (m at n : ℕ) (e : seenAll
         let z : suc (base + g) ≡ base + suc g = omega arith in
         ap₂ _∷_ (item-held g (omega arith)) (ap (λ (j : ℕ). familyAt cs os ls s fs j c) z ∙ family-is (suc g) c (omega arith))
 
-  relation-slots : (g : ℕ) → g < h .gens → slot h 1 (suc g) ≡ 1 + g
+  relation-slots : (g : ℕ) → g < h .gens → slot h termG (suc g) ≡ 1 + g
   unfolding slot
   relation-slots g l = sym (one-add g)
 
-  basis-slots : (g : ℕ) → g < h .basis → slot h 2 (suc g) ≡ h .gens + 1 + g
+  basis-slots : (g : ℕ) → g < h .basis → slot h termB (suc g) ≡ h .gens + 1 + g
   unfolding slot
   basis-slots g l = omega arith
 
-  relation-items : itemsOf h 1 ≡ h .gens
+  relation-items : itemsOf h termG ≡ h .gens
   unfolding itemsOf
   relation-items = refl
 
-  basis-items : itemsOf h 2 ≡ h .basis
+  basis-items : itemsOf h termB ≡ h .basis
   unfolding itemsOf
   basis-items = refl
 
   pub relations-run : Runs fs 1 (h .gens) m
-  relations-run = runs 1 1 (h .gens) (within-in 1 2 1 (omega arith) (omega arith)) relation-items relation-slots (omega arith)
+  relations-run = runs termG 1 (h .gens) (within-in 1 2 termG (omega arith) (omega arith)) relation-items relation-slots (omega arith)
 
   pub basis-run : Runs fs (h .gens + 1) (h .basis) m
-  basis-run = runs 2 (h .gens + 1) (h .basis) (within-in 1 2 2 (omega arith) (omega arith)) basis-items basis-slots (omega arith)
+  basis-run = runs termB (h .gens + 1) (h .basis) (within-in 1 2 termB (omega arith) (omega arith)) basis-items basis-slots (omega arith)
 
   pub relations-held : familyAt cs os ls s fs 1 (h .gens) ≡ relations P
   unfolding relations
-  relations-held = family-is 1 1 (h .gens) (within-in 1 2 1 (omega arith) (omega arith)) relation-items relation-slots (omega arith) 0 (h .gens) (omega arith)
+  relations-held = family-is termG 1 (h .gens) (within-in 1 2 termG (omega arith) (omega arith)) relation-items relation-slots (omega arith) 0 (h .gens) (omega arith)
 
   pub basis-held : familyAt cs os ls s fs (h .gens + 1) (h .basis) ≡ basis P
   unfolding basis
   basis-held =
       let z : h .gens + 1 + 0 ≡ h .gens + 1 = omega arith in
       ap (λ (j : ℕ). familyAt cs os ls s fs j (h .basis)) (sym z)
-      ∙ family-is 2 (h .gens + 1) (h .basis) (within-in 1 2 2 (omega arith) (omega arith)) basis-items basis-slots (omega arith) 0 (h .basis) (omega arith)
+      ∙ family-is termB (h .gens + 1) (h .basis) (within-in 1 2 termB (omega arith) (omega arith)) basis-items basis-slots (omega arith) 0 (h .basis) (omega arith)

@@ -12,7 +12,7 @@ use Rattle.words.specs.Order.{Order, wordOrder}
 use Rattle.words.specs.Place.{leftmost}
 use Rattle.algebra.specs.Poly.{Poly}
 use Rattle.algebra.specs.Written.{written}
-use Rattle.algebra.specs.Ideal.{Family, family}
+use Rattle.algebra.specs.Ideal.{Family, family, Line}
 use Rattle.algebra.specs.Groebner.{lead, leadCoef, top}
 use Rattle.algebra.specs.Steps.{takeAway}
 use Rattle.overlaps.specs.Overlaps as O
@@ -53,31 +53,65 @@ unfolding holdsOther
 apartJudged all [] i = fine
 apartJudged all (u ∷ us) i = elim (holdsOther u i all 1) [ true ↦ refusal 9 i | false ↦ apartJudged all us (suc i) ]
 
--- What is left of a polynomial when lines are taken away: a line leaves over 512 terms, or the rest.
+-- What is left of a target when lines are taken away: a line fails the test before it, a line leaves over 512 terms, or the rest. A line goes by its number.
 pub data Left : Type 0 where
+  fails : ℕ → Left
   over : ℕ → Left
   rest : Poly → Left
 
--- The lines taken away one after the other; 10 is judged after each.
-unfoldable pub lessLines : Operations → Order → Family → Poly → List SumLine → Left
+-- The lines taken away one after the other: the test before each line, and 10 after it.
+unfoldable pub less : (Line → Bool) → Operations → Order → Family → Poly → List SumLine → Left
 unfolding takeAway
-lessLines K O G f [] = rest f
-lessLines K O G f (s ∷ ss) = elim (ltb 512 (length (takeAway K O G f (lineOf s)))) [
-  | true ↦ over (s .line)
-  | false ↦ lessLines K O G (takeAway K O G f (lineOf s)) ss
+less test K O G f [] = rest f
+less test K O G f (s ∷ ss) = elim (test (lineOf s)) [
+  | false ↦ fails (s .line)
+  | true ↦ elim (ltb 512 (length (takeAway K O G f (lineOf s)))) [
+    | true ↦ over (s .line)
+    | false ↦ less test K O G (takeAway K O G f (lineOf s)) ss
+  ]
 ]
 
--- A line that leaves over 512 terms gives 10; at the item's end a nonzero rest gives number n at the item.
+-- The test of B and G lines: none.
+unfoldable pub anyLine : Line → Bool
+anyLine x = true
+
+-- The test of the O lines of an overlap with word m: left × leading word × right is strictly below m.
+unfoldable pub isUnder : Order → Family → Word → Line → Bool
+unfolding top
+isUnder O G m x = elim (O (top G x) m) [ Below ↦ true | Equal ↦ false | Above ↦ false ]
+
+-- An item's verdict: 14 where a line fails its test, 10 where one leaves over 512 terms; at the item's end a nonzero rest gives number n at the item.
 unfoldable pub sumVerdict : ℕ → ℕ → Left → Verdict
+sumVerdict n i (fails line) = refusal 14 line
 sumVerdict n i (over line) = refusal 10 line
 sumVerdict n i (rest []) = fine
 sumVerdict n i (rest (t ∷ f)) = refusal n i
 
 -- The sums of kind k, for targets numbered from i on, over the polynomials of G; a wrong sum gives number n.
 unfoldable pub sumsJudged : ℕ → ℕ → Operations → Order → Family → List SumLine → List Poly → ℕ → Verdict
-unfolding sumVerdict lessLines sumOf thenJudge
+unfolding sumVerdict less anyLine sumOf thenJudge
 sumsJudged n k K O G ss [] i = fine
-sumsJudged n k K O G ss (f ∷ fs) i = thenJudge (sumVerdict n i (lessLines K O G f (sumOf k i ss))) (sumsJudged n k K O G ss fs (suc i))
+sumsJudged n k K O G ss (f ∷ fs) i = thenJudge (sumVerdict n i (less anyLine K O G f (sumOf k i ss))) (sumsJudged n k K O G ss fs (suc i))
+
+-- A kind of sums: the kind of their lines, the number that a wrong one gives, the targets, and the polynomials that the sums are over.
+pub record Side : Type 0 where
+  pub kind : ℕ
+  pub number : ℕ
+  pub targets : List Poly
+  pub others : List Poly
+
+-- The kinds of sums in the order of judgement: B sums equal the basis, over the relations (11); G sums equal the relations, over the basis (12).
+abbrev pub sides : List Poly → List Poly → List Side
+sides rs ps =
+    record { kind = sumB; number = 11; targets = ps; others = rs }
+    ∷ record { kind = sumG; number = 12; targets = rs; others = ps }
+    ∷ []
+
+-- The kinds of sums one after the other, each for all its items.
+unfoldable pub kindsJudged : Operations → Order → List SumLine → List Side → Verdict
+unfolding sumsJudged thenJudge family
+kindsJudged K O ss [] = fine
+kindsJudged K O ss (s ∷ more) = thenJudge (sumsJudged (s .number) (s .kind) K O (family (s .others)) ss (s .targets) 1) (kindsJudged K O ss more)
 
 -- 15: the first O line whose item is above the overlap count.
 unfoldable pub itemsJudged : ℕ → List SumLine → Verdict
@@ -87,37 +121,13 @@ itemsJudged count (s ∷ ss) = elim (eqb (s .kind) sumO) [
   | true ↦ elim (ltb count (s .item)) [ true ↦ refusal 15 (s .line) | false ↦ itemsJudged count ss ]
 ]
 
--- An overlap's lines: a line that is not below the overlap word, over 512 terms, or the rest.
-pub data Certified : Type 0 where
-  notBelow : ℕ → Certified
-  certified : Left → Certified
-
--- The lines of an overlap with word m: each line 14 before 10.
-unfoldable pub lessBelow : Operations → Order → Family → Word → Poly → List SumLine → Certified
-unfolding takeAway top
-lessBelow K O G m f [] = certified (rest f)
-lessBelow K O G m f (s ∷ ss) = elim (O (top G (lineOf s)) m) [
-  | Equal ↦ notBelow (s .line)
-  | Above ↦ notBelow (s .line)
-  | Below ↦ elim (ltb 512 (length (takeAway K O G f (lineOf s)))) [
-    | true ↦ certified (over (s .line))
-    | false ↦ lessBelow K O G m (takeAway K O G f (lineOf s)) ss
-  ]
-]
-
--- 14, 10, and at the item's end 13.
-unfoldable pub overlapVerdict : ℕ → Certified → Verdict
-unfolding sumVerdict
-overlapVerdict i (notBelow line) = refusal 14 line
-overlapVerdict i (certified l) = sumVerdict 13 i l
-
--- The overlaps, numbered from i on.
+-- The overlaps, numbered from i on: in each line 14 before 10, and at an overlap's end 13.
 unfoldable pub overlapsJudged : Operations → Order → Family → List SumLine → List O.Overlap → ℕ → Verdict
-unfolding overlapVerdict lessBelow sumOf thenJudge written difference overlapWord
+unfolding sumVerdict less isUnder sumOf thenJudge written difference overlapWord
 overlapsJudged K O G ss [] i = fine
 overlapsJudged K O G ss (o ∷ os) i =
     thenJudge
-    (overlapVerdict i (lessBelow K O G (overlapWord G o) (written K O (difference K G o)) (sumOf sumO i ss)))
+    (sumVerdict 13 i (less (isUnder O G (overlapWord G o)) K O G (written K O (difference K G o)) (sumOf sumO i ss)))
     (overlapsJudged K O G ss os (suc i))
 
 -- 8 for all items, then 9 for all: what listing judges too.
@@ -125,16 +135,15 @@ unfoldable pub basisJudged : List Poly → Verdict
 unfolding leadsJudged apartJudged leads thenJudge
 basisJudged ps = thenJudge (leadsJudged ps 1) (apartJudged (leads ps) (leads ps) 1)
 
--- B items with 10 and 11; G items with 10 and 12; then 15; then O items.
+-- The kinds of sums; then 15; then the overlaps.
 unfoldable pub sumsVerdict : Operations → Order → List Poly → List Poly → List SumLine → Verdict
-unfolding sumsJudged itemsJudged overlapsJudged thenJudge leads overlaps family
+unfolding kindsJudged itemsJudged overlapsJudged thenJudge leads overlaps family
 sumsVerdict K O rs ps ss =
-    thenJudge (sumsJudged 11 sumB K O (family rs) ss ps 1)
-    (thenJudge (sumsJudged 12 sumG K O (family ps) ss rs 1)
+    thenJudge (kindsJudged K O ss (sides rs ps))
     (thenJudge (itemsJudged (length (overlaps (leads ps))) ss)
-    (overlapsJudged K O (family ps) ss (overlaps (leads ps)) 1)))
+    (overlapsJudged K O (family ps) ss (overlaps (leads ps)) 1))
 
--- The check of a package that reads.
+-- The check of a package that reads: the basis; the kinds of sums; 15; the overlaps.
 unfoldable pub checked : Package → Verdict
 unfolding basisJudged sumsVerdict thenJudge relations basis fieldOf wordOrder
 checked P = thenJudge (basisJudged (basis P)) (sumsVerdict (fieldOf (P .head .p)) wordOrder (relations P) (basis P) (P .sums))

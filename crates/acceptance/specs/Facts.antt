@@ -20,15 +20,15 @@ use Rattle.package.specs.Package.{Package}
 use Rattle.acceptance.specs.Content.{relations, basis, lineOf, sumOf, linesOf}
 
 -- No line of a sum meets refusal 10: after each line, target minus the sum so far has at most 512 terms.
-abbrev pub Roomy : Operations → Order → Family → Poly → List Line → Type 0
-Roomy K O G f xs =
+abbrev pub FewTerms : Operations → Order → Family → Poly → List Line → Type 0
+FewTerms K O G f xs =
     (before : List Line) (x : Line) (after : List Line) → before ++ (x ∷ after) ≡ xs
     → (g : Poly) → Written K O g → Same K g (sub K f (value K G (before ++ (x ∷ [])))) → length g ≤ 512
 
 -- A sum equals its target, and meets no refusal 10.
 pub record SumHolds (K : Operations) (O : Order) (G : Family) (f : Poly) (xs : List Line) : Type 0 where
   pub equal : Same K f (value K G xs)
-  pub roomy : Roomy K O G f xs
+  pub few : FewTerms K O G f xs
 
 -- Overlap number k, counted from 1; the number names none where there are fewer.
 abbrev pub overlapAt : List Poly → ℕ → O.Overlap

@@ -1,1 +1,1 @@
-// The check of a package (document 01, 'Facts of acceptance' and 'Numbers and places'): refusals 8 to 15.
+// Definitions and theorems alone: what a package holds, the check of it (refusals 8 to 15), the facts of acceptance, and how a formula is brought to its short form. No function is here.

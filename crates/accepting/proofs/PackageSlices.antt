@@ -25,9 +25,11 @@ use Rattle.acceptance.specs.Check.{Verdict, refusal, fine, thenJudge, basisJudg
 use Rattle.acceptance.proofs.ReadableContent.{readable-field, relations-written, basis-written}
 use Rattle.acceptance.proofs.SlicesContent.{slices-terms, relations-run, basis-run, relations-held, basis-held}
 use Rattle.sumlines.specs.Lines.{sumsAt}
-use Rattle.checking.specs.Answer.{PackageLies, SumsStart, relationsIn, basisIn, answerOf}
-use Rattle.checking.specs.declared.Checked.{Checked}
-use Rattle.checking.specs.declared.Checked.the-variants.{Rejected, Accepted}
+use Rattle.sumorder.specs.Slices.{PackageLies, relationsIn, basisIn}
+use Rattle.sumorder.specs.Reached.{SumsStart}
+use Rattle.overlapchecking.specs.Answer.{answerOf}
+use Rattle.overlapchecking.specs.declared.Checked.{Checked}
+use Rattle.overlapchecking.specs.declared.Checked.the-variants.{Rejected, Accepted}
 use Rattle.acceptance.specs.Acceptance.{judgedBy, acceptance}
 use Rattle.accepting.specs.Slices.{PackageRead, PackageAccepted, overlapsIn}
 

@@ -10,7 +10,8 @@ use Rattle.overlaps.specs.Overlaps.{leads, overlaps}
 use Rattle.acceptance.specs.Content.{relations, basis}
 use Rattle.acceptance.specs.Check.{fine, basisJudged}
 use Rattle.sumlines.specs.Lines.{sumsAt}
-use Rattle.checking.specs.Answer.{PackageLies, SumsStart, relationsIn, basisIn}
+use Rattle.sumorder.specs.Slices.{PackageLies, relationsIn, basisIn}
+use Rattle.sumorder.specs.Reached.{SumsStart}
 use Rattle.accepting.specs.declared.Accepting.{Accepting}
 use Rattle.accepting.specs.declared.Accepting.the-variants.{Turned, Taken}
 use Rattle.acceptance.specs.Acceptance.{acceptance}

@@ -1,8 +1,8 @@
 // A package's bytes, read and checked: refusals 1 to 15, or the package in lent slices.
 
 use crate::Accepting;
-use checking::Checked;
 use checking::check::check;
+use overlapchecking::Checked;
 use package::Head;
 use package::Reading;
 use reading::read::read_package;

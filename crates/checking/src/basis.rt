@@ -7,9 +7,10 @@ use sumlines::leading::leading_words;
 ghost use mathlib.Core.Path.{_≡_};
 ghost use Prim.Native.Nat.{_+_};
 ghost use Rattle.acceptance.specs.Check.{basisJudged};
-ghost use Rattle.checking.specs.Answer.{basisVerdict, HeadsWhere, basisIn, PackageLies, HeadRoom};
+ghost use Rattle.sumorder.specs.Slices.{basisIn, PackageLies};
+ghost use Rattle.checking.specs.Answer.{basisVerdict, HeadsWhere, HeadRoom};
 
-// 8 for all items, then 9 for all; where the basis is sound, heads and headlens lay its leading words.
+// 8 for all items, then 9 for all; where the basis is sound, heads and headlens lay its leading words, else they are scratch.
 pub fn judge_basis(
     h: Head,
     coefs: &[u32],

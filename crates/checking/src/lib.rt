@@ -2,15 +2,11 @@
 
 pub mod basis;
 pub mod check;
+pub mod relations;
+pub mod sums;
 
 // What leading coefficients and leading words are judged: refused with number and place, or sound.
 pub enum BasisAnswer {
     Unsound { number: u32, place: usize },
     Sound,
-}
-
-// What a package is judged: rejected with number and place, or accepted, with the number of its overlaps.
-pub enum Checked {
-    Rejected { number: u32, place: usize },
-    Accepted { count: usize },
 }

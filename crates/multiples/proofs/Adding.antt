@@ -18,14 +18,6 @@ use Rattle.working.specs.Polynomial.{polyTerm, polyAt}
 use Rattle.working.specs.Change.{single}
 use Rattle.working.proofs.Terms.{terms-next, terms-end}
 
--- the slices are as long as they were
-pub record Sizes (c₀ l₀ w₀ o₀ b₀ c l w o b : List ℕ) : Type 0 where
-  pub coefs : length c ≡ length c₀
-  pub lens : length l ≡ length l₀
-  pub letters : length w ≡ length w₀
-  pub places : length o ≡ length o₀
-  pub word : length b ≡ length b₀
-
 -- k terms are held, and adding `rest` to them gives `whole`
 pub record Adding (p : ℕ) (c l w o : List ℕ) (k : ℕ) (rest whole : Poly) : Type 0 where
   pub working : Working p c l w o k

@@ -20,6 +20,7 @@ use Rattle.algebra.proofs.WrittenForm.{written-multiple, written-of-written}
 use Rattle.algebra.specs.Written.{Written, plus, written}
 use Rattle.overlaps.specs.Overlaps.{Overlap, leads, overlapWord, difference}
 use Rattle.overlaps.specs.Position.{overlapOf}
+use Rattle.overlaps.proofs.Certification.{lead-of}
 use Rattle.words.specs.Below.{isBelow}
 use Rattle.working.specs.Family.{familyAt}
 use Rattle.overlapwords.specs.declared.OverlapAt.{OverlapAt}
@@ -59,18 +60,12 @@ under-text starts lens bytes s x i k u v e h =
     let b : k - 0 ≡ k = omega arith in
     h ∙ rw (a, b) (ap (λ (t : List ℕ). isBelow t (take k v)) e)
 
-leads-at : (ps : List Poly) (i : ℕ) → getD (leads ps) i [] ≡ lead (getD ps i [])
-unfolding leads lead
-leads-at [] i = refl
-leads-at (f ∷ ps) zero = refl
-leads-at (f ∷ ps) (suc i) = leads-at ps i
-
 -- the leading words of the polynomials by number
 pub lead-laid : {coefs starts lens bytes firsts heads headlens : List ℕ} {base count : ℕ} → HeadsOf coefs starts lens bytes firsts base count heads headlens
     → (g : ℕ) → g < count → lead (family (familyAt coefs starts lens bytes firsts base count) (suc g)) ≡ laidWord heads headlens bytes g
 unfolding family
 lead-laid {coefs} {starts} {lens} {bytes} {firsts} {heads} {headlens} {base} {count} h g l =
-    sym (leads-at (familyAt coefs starts lens bytes firsts base count) g)
+    sym (lead-of (familyAt coefs starts lens bytes firsts base count) (suc g))
     ∙ ap (λ (ws : List Word). getD ws g []) (sym (h .leading))
     ∙ laid-at heads headlens bytes count g l
 

@@ -12,7 +12,7 @@ use Rattle.overlaps.specs.declared.Next.{Next}
 use Rattle.overlaps.specs.declared.Next.the-variants.{Overlap, Done}
 use Rattle.overlaps.specs.Position.{overlapsAt, overlapOf, behind, origin, ordinal, seenNext, Placed, Short, FoundAt, Ahead}
 use Rattle.overlapwords.specs.declared.OverlapAt.{OverlapAt}
-use Rattle.overlapwords.specs.OverlapPlaces.{cursorOf, seenOverlaps, Overlapped}
+use Rattle.overlapwords.specs.OverlapPlaces.{cursorOf, behindAll, seenOverlaps, Overlapped}
 
 -- what the search gives, as an overlap that is present or not
 module _ (ws : List Word) (lens : List ℕ) (n : ℕ) (from : Cursor) (r : Next) (e : seenNext ws r ≡ overlapsAt ws from) (a : Ahead lens n from r) where
@@ -35,7 +35,7 @@ placed-origin n = record { row = λ h. h; some = omega arith; most = omega arith
 -- i overlaps before f were seen.
 pub record Walked (lens : List ℕ) (n i : ℕ) (f : OverlapAt) : Type 0 where
   pub found : f .present ≡ true → Overlapped lens n f
-  pub gone : f .present ≡ false → ordinal (cursorOf f) ≡ 99841
+  pub gone : f .present ≡ false → ordinal (cursorOf f) ≡ behindAll
   pub few : i ≤ ordinal (cursorOf f)
 
 module _ (lens : List ℕ) (n : ℕ) (S : Short lens n) (N : n ≤ 64) where
@@ -49,7 +49,7 @@ module _ (lens : List ℕ) (n : ℕ) (S : Short lens n) (N : n ≤ 64) where
     below-second = a .below-second;
   }
 
-  pub walk-start : (f : OverlapAt) → (f .present ≡ true → FoundAt lens n origin (cursorOf f)) → (f .present ≡ false → ordinal (cursorOf f) ≡ 99841) → Walked lens n 0 f
+  pub walk-start : (f : OverlapAt) → (f .present ≡ true → FoundAt lens n origin (cursorOf f)) → (f .present ≡ false → ordinal (cursorOf f) ≡ behindAll) → Walked lens n 0 f
   walk-start f a b = record { found = λ p. overlapped origin f (a p); gone = b; few = omega arith }
 
   module _ (i : ℕ) (f : OverlapAt) (w : Walked lens n i f) (p : f .present ≡ true) where
@@ -68,7 +68,7 @@ module _ (lens : List ℕ) (n : ℕ) (S : Short lens n) (N : n ≤ 64) where
         let c = o .below-first in let d = o .short-first in
         record { row = λ h. o .second; some = omega arith; most = omega arith }
 
-    module _ (f′ : OverlapAt) (a : f′ .present ≡ true → FoundAt lens n (behind (cursorOf f)) (cursorOf f′)) (b : f′ .present ≡ false → ordinal (cursorOf f′) ≡ 99841) where
+    module _ (f′ : OverlapAt) (a : f′ .present ≡ true → FoundAt lens n (behind (cursorOf f)) (cursorOf f′)) (b : f′ .present ≡ false → ordinal (cursorOf f′) ≡ behindAll) where
       further : ordinal (cursorOf f) < ordinal (cursorOf f′)
       further = go (f′ .present) refl
         where

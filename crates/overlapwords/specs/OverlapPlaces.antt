@@ -1,7 +1,7 @@
 -- Overlaps as they are found: the overlap that is present, and those behind it.
 use mathlib.Core.Bool.{true, false}
 use mathlib.Core.List.{List, [], _∷_, _++_}
-use Prim.Native.Nat.{ℕ, _-_, _≤_, _<_}
+use Prim.Native.Nat.{ℕ, _+_, _-_, _*_, _≤_, _<_}
 use lib.ListN.{getD, drop}
 use Rattle.text.specs.Pieces.{part}
 use Rattle.words.specs.Word.{Word, around}
@@ -12,9 +12,13 @@ use Rattle.overlaps.specs.Position.{overlapsAt, overlapOf, behind}
 use Rattle.overlapwords.specs.declared.OverlapAt.{OverlapAt}
 use Rattle.sumlines.specs.declared.SumAt.{SumAt}
 
--- Its place.
+-- The place of an overlap among the words, counted from 0.
 abbrev pub cursorOf : OverlapAt → Cursor
 cursorOf f = record { first = f .first; second = f .second; shared = f .shared }
+
+-- The place behind all overlaps of 64 words of at most 24 letters: its number in their order is that of word 64 with word 64, counted from 0.
+abbrev pub behindAll : ℕ
+behindAll = (64 * 64 + 64) * 24 + 1
 
 -- The overlap and those behind it, or none.
 unfoldable pub seenOverlaps : List Word → OverlapAt → List Overlap

@@ -11,7 +11,7 @@ ghost use lib.ListN.{length};
 ghost use Rattle.words.specs.Laid.{laidWords, Laid};
 ghost use Rattle.overlaps.specs.Overlaps.{overlaps};
 ghost use Rattle.overlaps.specs.Position.{overlapsAt, origin, behind, ordinal, Placed, Short, FoundAt};
-ghost use Rattle.overlapwords.specs.OverlapPlaces.{cursorOf, seenOverlaps};
+ghost use Rattle.overlapwords.specs.OverlapPlaces.{cursorOf, behindAll, seenOverlaps};
 
 // The first overlap from a place on.
 pub fn overlap_from(
@@ -25,7 +25,7 @@ pub fn overlap_from(
     requires { ⌜ (n ≤ 64) × Short (now headlens) n × Placed n from ⌝ }
     ensures { λ r. ⌜ seenOverlaps (laidWords (now (heads .entry)) (now (headlens .entry)) (now (bytes .entry)) n) r ≡ overlapsAt (laidWords (now (heads .entry)) (now (headlens .entry)) (now (bytes .entry)) n) from ⌝ }
     ensures { λ r. ⌜ (r .present ≡ true → FoundAt (now (headlens .entry)) n from (cursorOf r)) ⌝ }
-    ensures { λ r. ⌜ (r .present ≡ false → ordinal (cursorOf r) ≡ 99841) ⌝ }
+    ensures { λ r. ⌜ (r .present ≡ false → ordinal (cursorOf r) ≡ behindAll) ⌝ }
 {
     let next = next_overlap(heads, headlens, bytes, n, from);
     if let Next::Overlap(c) = next {
@@ -56,7 +56,7 @@ pub fn overlap_behind(
     requires { ⌜ (n ≤ 64) × Short (now headlens) n × Placed n (behind (cursorOf f)) ⌝ }
     ensures { λ r. ⌜ seenOverlaps (laidWords (now (heads .entry)) (now (headlens .entry)) (now (bytes .entry)) n) r ≡ overlapsAt (laidWords (now (heads .entry)) (now (headlens .entry)) (now (bytes .entry)) n) (behind (cursorOf f)) ⌝ }
     ensures { λ r. ⌜ (r .present ≡ true → FoundAt (now (headlens .entry)) n (behind (cursorOf f)) (cursorOf r)) ⌝ }
-    ensures { λ r. ⌜ (r .present ≡ false → ordinal (cursorOf r) ≡ 99841) ⌝ }
+    ensures { λ r. ⌜ (r .present ≡ false → ordinal (cursorOf r) ≡ behindAll) ⌝ }
 {
     overlap_from(
         heads,
@@ -77,7 +77,7 @@ pub fn first_overlap(heads: &[usize], headlens: &[usize], bytes: &[u8], n: usize
     requires { ⌜ (n ≤ 64) × Short (now headlens) n ⌝ }
     ensures { λ r. ⌜ seenOverlaps (laidWords (now (heads .entry)) (now (headlens .entry)) (now (bytes .entry)) n) r ≡ overlaps (laidWords (now (heads .entry)) (now (headlens .entry)) (now (bytes .entry)) n) ⌝ }
     ensures { λ r. ⌜ (r .present ≡ true → FoundAt (now (headlens .entry)) n origin (cursorOf r)) ⌝ }
-    ensures { λ r. ⌜ (r .present ≡ false → ordinal (cursorOf r) ≡ 99841) ⌝ }
+    ensures { λ r. ⌜ (r .present ≡ false → ordinal (cursorOf r) ≡ behindAll) ⌝ }
 {
     overlap_from(
         heads,

@@ -27,7 +27,7 @@ ghost use Rattle.sumlines.specs.Room.{Ready};
 ghost use Rattle.sumlines.specs.Lines.{LineFits, takenLine};
 ghost use Rattle.overlapwords.specs.OverlapPlaces.{cursorOf, Overlapped, laidOverlap, laidTop};
 
-// Writes the overlap word to the front of lap; the answer is how many letters it has.
+// Writes the overlap word to the front of lap; the answer is how many letters it has. The rest of lap is scratch.
 pub fn put_overlap(
     f: OverlapAt,
     heads: &[usize],
@@ -59,7 +59,7 @@ pub fn put_overlap(
     )
 }
 
-// Whether left × leading word × right of a line is below the word of k letters in lap. It is written to top.
+// Whether left × leading word × right of a line is below the word of k letters in lap. top is scratch: the line's word is put together there.
 pub fn is_under(
     s: SumAt,
     heads: &[usize],
@@ -93,7 +93,7 @@ pub fn is_under(
     is_below(&top[0..i], &lap[0..k])
 }
 
-// Starts the formula anew with the difference of an overlap; the answer is how many terms it has.
+// Starts the formula anew with the difference of an overlap; the answer is how many terms it has. buf is scratch.
 pub fn start_difference(
     p: u32,
     f: OverlapAt,

@@ -1,7 +1,7 @@
 -- The leading words of a readable package's basis have an index, and where the basis is judged fine it serves the run.
 use mathlib.Core.Path.{_≡_, refl, sym, _∙_, ap, subst}
 use mathlib.Core.List.{List, [], _∷_, map}
-use Prim.Native.Nat.{ℕ, zero, suc, _≤_}
+use Prim.Native.Nat.{ℕ, _≤_}
 use native.Mathlib.Omega.{arith}
 use lib.ListN.{length, length-map}
 use Rattle.lists.specs.All.{All, done, _also_}
@@ -15,11 +15,13 @@ use Rattle.package.specs.Package.{Package}
 use Rattle.package.specs.Readable.{Readable}
 use Rattle.package.proofs.LineBounds.{head-bounds}
 use Rattle.acceptance.specs.Content.{basis}
-use Rattle.acceptance.specs.Check.{Verdict, refusal, fine, leadsJudged, apartJudged, basisJudged}
-use Rattle.acceptance.proofs.AcceptedIff.{then-iff, leads-to}
+use Rattle.acceptance.specs.Check.{fine, leadsJudged, apartJudged, basisJudged}
+use Rattle.acceptance.proofs.Verdicts.{then-iff}
+use Rattle.acceptance.proofs.BasisFacts.{leads-to}
 use Rattle.acceptance.proofs.ReadableContent.{basis-letters, basis-short, basis-few}
 use Rattle.shortform.specs.Basis.{LeadsOf}
 use Rattle.sumlines.specs.Told.{told}
+use Rattle.sumlines.proofs.ToldNumbers.{told-fine}
 
 -- Both lists of the leading words are the same.
 pub leads-lead : (ps : List Poly) → leads ps ≡ map lead ps
@@ -52,18 +54,9 @@ leads-fine : (ps : List Poly) → basisJudged ps ≡ fine → leadsJudged ps 1 �
 unfolding basisJudged
 leads-fine ps e = then-iff (leadsJudged ps 1) (apartJudged (leads ps) (leads ps) 1) .0 e .0
 
-Fine : Verdict → Type 0
-Fine (refusal n k) = ⊥
-Fine fine = Unit {0}
-
-told-fine : (n r : ℕ) → told n r ≡ fine → r ≡ 0
-unfolding told Fine
-told-fine n zero e = refl
-told-fine n (suc r) e = absurd (subst Fine (sym e) tt)
-
 -- In a basis that is judged fine no polynomial is refused by 8.
 pub none-wrong : (ps : List Poly) (r : ℕ) → basisJudged ps ≡ fine → told 8 r ≡ leadsJudged ps 1 → r ≡ 0
-none-wrong ps r e q = told-fine 8 r (q ∙ leads-fine ps e)
+none-wrong ps r e q = told-fine 8 r .0 (q ∙ leads-fine ps e)
 
 -- An index of the leading words of a basis that is judged fine serves the run.
 pub leads-of : (ps : List Poly) (index : List ℕ) → basisJudged ps ≡ fine → Indexed (leads ps) index → LeadsOf ps index

@@ -16,7 +16,7 @@ use Rattle.package.specs.Package.{Package, refused}
 use Rattle.package.proofs.LineBounds.{head-bounds}
 use Rattle.acceptance.specs.Content.{basis}
 use Rattle.acceptance.proofs.FormulaSlices.{formula-held, held-written, held-short, held-given}
-use Rattle.checking.specs.Answer.{basisIn}
+use Rattle.sumorder.specs.Slices.{basisIn}
 use Rattle.acceptance.specs.Acceptance.{acceptance}
 use Rattle.accepting.specs.Slices.{PackageAccepted}
 use Rattle.acceptance.specs.Reduction.{formulaLimits, Reduction, refusedBy, reductionOf, formulaReduced, packageReduced, reduction}

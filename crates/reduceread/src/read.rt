@@ -11,7 +11,7 @@ ghost use mathlib.Core.Path.{_≡_};
 ghost use Rattle.leads.specs.Index.{Blank};
 ghost use Rattle.shortform.specs.Basis.{LeadsOf};
 ghost use Rattle.sumlines.specs.Room.{Places};
-ghost use Rattle.checking.specs.Answer.{basisIn};
+ghost use Rattle.sumorder.specs.Slices.{basisIn};
 ghost use Rattle.accepting.specs.Slices.{PackageAccepted};
 ghost use Rattle.acceptance.specs.Reduction.{reduction};
 ghost use Rattle.reduceread.specs.Slices as lying;

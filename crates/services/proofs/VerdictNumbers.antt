@@ -5,6 +5,7 @@ use mathlib.Core.List.{List, [], _∷_}
 use Prim.Native.Nat.{ℕ, suc}
 use lib.Dec.{eqb, ltb, lit≤}
 use lib.ListN.{length}
+use Rattle.lists.specs.All.{All, done, _also_}
 use Rattle.field.specs.Field.{Operations, fieldOf}
 use Rattle.words.specs.Word.{Word}
 use Rattle.words.specs.Order.{Order, wordOrder}
@@ -16,7 +17,7 @@ use Rattle.package.specs.Names.{sumB, sumG, sumO}
 use Rattle.package.specs.Sums.{SumLine}
 use Rattle.package.specs.Package.{Package}
 use Rattle.acceptance.specs.Content.{relations, basis, sumOf}
-use Rattle.acceptance.specs.Check.{Verdict, refusal, fine, thenJudge, leadsJudged, holdsOther, apartJudged, Left, over, rest, lessLines, sumVerdict, sumsJudged, itemsJudged, Certified, notBelow, certified, lessBelow, overlapVerdict, overlapsJudged, basisJudged, sumsVerdict, checked}
+use Rattle.acceptance.specs.Check.{Verdict, refusal, fine, thenJudge, leadsJudged, holdsOther, apartJudged, Left, fails, over, rest, less, anyLine, isUnder, sumVerdict, sumsJudged, Side, sides, kindsJudged, itemsJudged, overlapsJudged, basisJudged, sumsVerdict, checked}
 use Rattle.services.specs.Demands.{Between}
 
 module _ (Q : ℕ → Type 0) where
@@ -49,19 +50,27 @@ module _ (Q : ℕ → Type 0) where
       go true x = q
       go false x = x
 
-  left-number : Q 10 → {n : ℕ} → Q n → (i : ℕ) (l : Left) → Judged (sumVerdict n i l)
+  left-number : Q 10 → Q 14 → {n : ℕ} → Q n → (i : ℕ) (l : Left) → Judged (sumVerdict n i l)
   unfolding Judged sumVerdict
-  left-number q r i (over k) = q
-  left-number q r i (rest []) = tt
-  left-number q r i (rest (t ∷ f)) = r
+  left-number q u r i (fails k) = u
+  left-number q u r i (over k) = q
+  left-number q u r i (rest []) = tt
+  left-number q u r i (rest (t ∷ f)) = r
 
-  sums-number : Q 10 → {n : ℕ} → Q n → (k : ℕ) (K : Operations) (O : Order) (G : Family) (ss : List SumLine) (fs : List Poly) (i : ℕ)
+  sums-number : Q 10 → Q 14 → {n : ℕ} → Q n → (k : ℕ) (K : Operations) (O : Order) (G : Family) (ss : List SumLine) (fs : List Poly) (i : ℕ)
       → Judged (sumsJudged n k K O G ss fs i)
   unfolding Judged sumsJudged
-  sums-number q r k K O G ss [] i = tt
-  sums-number q {n} r k K O G ss (f ∷ fs) i =
-      then-number (sumVerdict n i (lessLines K O G f (sumOf k i ss))) (sumsJudged n k K O G ss fs (suc i))
-      (left-number q r i (lessLines K O G f (sumOf k i ss))) (sums-number q r k K O G ss fs (suc i))
+  sums-number q u r k K O G ss [] i = tt
+  sums-number q u {n} r k K O G ss (f ∷ fs) i =
+      then-number (sumVerdict n i (less anyLine K O G f (sumOf k i ss))) (sumsJudged n k K O G ss fs (suc i))
+      (left-number q u r i (less anyLine K O G f (sumOf k i ss))) (sums-number q u r k K O G ss fs (suc i))
+
+  kinds-number : Q 10 → Q 14 → (K : Operations) (O : Order) (ss : List SumLine) (xs : List Side) → All (λ x. Q (x .number)) xs → Judged (kindsJudged K O ss xs)
+  unfolding Judged kindsJudged
+  kinds-number q u K O ss [] done = tt
+  kinds-number q u K O ss (x ∷ xs) (r also rs) =
+      then-number (sumsJudged (x .number) (x .kind) K O (family (x .others)) ss (x .targets) 1) (kindsJudged K O ss xs)
+      (sums-number q u r (x .kind) K O (family (x .others)) ss (x .targets) 1) (kinds-number q u K O ss xs rs)
 
   items-number : Q 15 → (count : ℕ) (ss : List SumLine) → Judged (itemsJudged count ss)
   unfolding Judged itemsJudged
@@ -74,18 +83,13 @@ module _ (Q : ℕ → Type 0) where
       go true true x = q
       go true false x = x
 
-  overlap-number : Q 10 → Q 13 → Q 14 → (i : ℕ) (c : Certified) → Judged (overlapVerdict i c)
-  unfolding Judged overlapVerdict
-  overlap-number q r s i (notBelow k) = s
-  overlap-number q r s i (certified l) = left-number q r i l
-
   overlaps-number : Q 10 → Q 13 → Q 14 → (K : Operations) (O : Order) (G : Family) (ss : List SumLine) (os : List Overlap) (i : ℕ)
       → Judged (overlapsJudged K O G ss os i)
   unfolding Judged overlapsJudged
-  overlaps-number q r s K O G ss [] i = tt
-  overlaps-number q r s K O G ss (o ∷ os) i =
-      let c = lessBelow K O G (overlapWord G o) (written K O (difference K G o)) (sumOf sumO i ss) in
-      then-number (overlapVerdict i c) (overlapsJudged K O G ss os (suc i)) (overlap-number q r s i c) (overlaps-number q r s K O G ss os (suc i))
+  overlaps-number q r u K O G ss [] i = tt
+  overlaps-number q r u K O G ss (o ∷ os) i =
+      let l = less (isUnder O G (overlapWord G o)) K O G (written K O (difference K G o)) (sumOf sumO i ss) in
+      then-number (sumVerdict 13 i l) (overlapsJudged K O G ss os (suc i)) (left-number q u r i l) (overlaps-number q r u K O G ss os (suc i))
 
   -- The basis is refused by 8 or 9.
   pub basis-number : Q 8 → Q 9 → (ps : List Poly) → Judged (basisJudged ps)
@@ -102,7 +106,7 @@ check-number P =
     let ss = P .sums in
     let Q = Between 8 15 in
     then-number Q (basisJudged ps) _ (basis-number Q (lit≤ tt, lit≤ tt) (lit≤ tt, lit≤ tt) ps)
-    (then-number Q (sumsJudged 11 sumB K wordOrder (family rs) ss ps 1) _ (sums-number Q (lit≤ tt, lit≤ tt) (lit≤ tt, lit≤ tt) sumB K wordOrder (family rs) ss ps 1)
-    (then-number Q (sumsJudged 12 sumG K wordOrder (family ps) ss rs 1) _ (sums-number Q (lit≤ tt, lit≤ tt) (lit≤ tt, lit≤ tt) sumG K wordOrder (family ps) ss rs 1)
+    (then-number Q (kindsJudged K wordOrder ss (sides rs ps)) _
+    (kinds-number Q (lit≤ tt, lit≤ tt) (lit≤ tt, lit≤ tt) K wordOrder ss (sides rs ps) ((lit≤ tt, lit≤ tt) also (lit≤ tt, lit≤ tt) also done))
     (then-number Q (itemsJudged (length (overlaps (leads ps))) ss) _ (items-number Q (lit≤ tt, lit≤ tt) (length (overlaps (leads ps))) ss)
-    (overlaps-number Q (lit≤ tt, lit≤ tt) (lit≤ tt, lit≤ tt) (lit≤ tt, lit≤ tt) K wordOrder (family ps) ss (overlaps (leads ps)) 1))))
+    (overlaps-number Q (lit≤ tt, lit≤ tt) (lit≤ tt, lit≤ tt) (lit≤ tt, lit≤ tt) K wordOrder (family ps) ss (overlaps (leads ps)) 1)))

@@ -14,6 +14,7 @@ use Rattle.acceptance.specs.Check.{Verdict, refusal, fine, itemsJudged}
 use Rattle.sumlines.specs.declared.SumAt.{SumAt}
 use Rattle.sumlines.specs.Told.{told}
 use Rattle.sumlines.specs.Lines.{sumsAt, heldLine, heldFrom, NumberedFrom, aboveCount, Counted, uncounted, counted, Inside}
+use Rattle.sumlines.proofs.ToldNumbers.{told-refused, told-fine}
 
 pub above-not : (count k i : ℕ) → k ≢ 3 → false ≡ aboveCount count k i
 unfolding aboveCount
@@ -30,15 +31,6 @@ above-low count k i h = go (eqb k 3)
     go : (t : Bool) → _≡_ {A = Bool} (elim t [ false ↦ false | true ↦ ltb count i ]) false
     go false = refl
     go true = le-ltb count i h
-
-pub told-some : (n r : ℕ) → 1 ≤ r → told n r ≡ refusal n r
-unfolding told
-told-some n zero h = absurd (omega arith)
-told-some n (suc r) h = refl
-
-pub told-none : (n : ℕ) → told n 0 ≡ fine
-unfolding told
-told-none n = refl
 
 pub counted-first : (n : ℕ) (ss : List SumLine) → Counted n ss → NumberedFrom n ss
 unfolding NumberedFrom
@@ -87,7 +79,7 @@ module _ (bytes : List ℕ) (count : ℕ) (whole : Verdict) (at line : ℕ) (s :
 
     pub left-above : aboveCount count (s .kind) (s .item) ≡ true → told 15 line ≡ whole
     left-above e =
-        told-some 15 line (h .some)
+        told-refused 15 line (λ e. let z = h .some in omega arith)
         ∙ sym (items-here count (heldLine bytes line s) (sumsAt bytes (s .next) (suc line)) e)
         ∙ ap (itemsJudged count) (sym first-line) ∙ h .same
 
@@ -114,4 +106,4 @@ module _ (bytes : List ℕ) (count : ℕ) (whole : Verdict) (at line : ℕ) (s :
 
   pub left-end : s .present ≡ false → told 15 0 ≡ whole
   unfolding itemsJudged heldFrom
-  left-end p = told-none 15 ∙ ap (itemsJudged count) (rw (heldFrom, p) at (h .held)) ∙ h .same
+  left-end p = told-fine 15 0 .1 refl ∙ ap (itemsJudged count) (rw (heldFrom, p) at (h .held)) ∙ h .same

@@ -58,9 +58,6 @@ module _ (p : ℕ) (coefs starts lens bytes firsts : List ℕ) (base count m : �
   abbrev last : ℕ → ℕ
   last g = getD firsts (base + g + 1) 0
 
-  pub in-terms : (g : ℕ) → g < count → last g ≤ m
-  in-terms g h = R .most g h
-
   -- the polynomials from number g on, one by one
   family-next : (g : ℕ) → g < count
       → familyAt coefs starts lens bytes firsts (base + g) (count - g)

@@ -9,7 +9,7 @@ ghost use Rattle.sumlines.specs.Told.{told};
 ghost use Rattle.sumlines.specs.Heads.{HeadsOf};
 
 // The number, from 1, of the first of count polynomials that is zero or does not lead with 1, or 0; heads and headlens then
-// say where each leading word starts and how long it is.
+// say where each leading word starts and how long it is. Where the answer is not 0 they are scratch.
 pub fn leading_words(
     p: u32,
     coefs: &[u32],

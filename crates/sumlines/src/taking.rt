@@ -19,6 +19,7 @@ ghost use Rattle.sumlines.specs.Lines.{takenLine, LineFits};
 ghost use Rattle.sumlines.specs.Room.{Ready};
 
 // Takes a sum line away from the formula of n terms; the answer is how many terms it then has. The polynomials are count many from entry base of firsts on.
+// buf is scratch: what it holds afterwards is not said.
 pub fn take_line(
     p: u32,
     s: SumAt,
@@ -79,7 +80,7 @@ pub fn take_line(
     )
 }
 
-// Starts the formula anew with polynomial number `of`, counted from 1; the answer is how many terms it has.
+// Starts the formula anew with polynomial number `of`, counted from 1; the answer is how many terms it has. buf is scratch.
 pub fn start_with(
     p: u32,
     of: usize,

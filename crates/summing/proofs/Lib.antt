@@ -1,4 +1,1 @@
-pub mod LineOrder
-pub mod NextLine
 pub mod SumsJudging
-pub mod OverlapsJudging

@@ -5,49 +5,29 @@ use mathlib.Core.List.{List, [], _∷_}
 use Prim.Native.Nat.{ℕ, zero, suc, _+_, _≤_, _<_}
 use native.Mathlib.Numerals.{add-one}
 use native.Mathlib.Omega.{arith}
-use lib.Dec.{ltb}
 use lib.ListN.{length, getD, drop, drop-of-length-le}
 use lib.Seq.{drop-cons}
-use borrow.Author.Tests.{lt-ltb, le-ltb}
 use Rattle.field.specs.Field.{Operations, fieldOf}
 use Rattle.words.specs.Order.{Order, wordOrder}
 use Rattle.algebra.specs.Poly.{Poly}
 use Rattle.algebra.specs.Ideal.{Family, family, Line}
 use Rattle.algebra.specs.Steps.{takeAway}
-use Rattle.working.specs.Working.{terms, formula, Arranged}
+use Rattle.working.specs.Working.{formula, Arranged}
 use Rattle.package.specs.declared.Head.{Head}
 use Rattle.package.specs.Package.{packageLimits}
 use Rattle.package.specs.Sums.{SumLine, ofs}
 use Rattle.package.specs.Readable.{SumInOrder, SumsInOrder}
 use Rattle.acceptance.specs.Content.{sumOf, lineOf}
-use Rattle.acceptance.specs.Check.{Verdict, refusal, fine, thenJudge, over, rest, lessLines, sumVerdict, sumsJudged}
+use Rattle.acceptance.specs.Check.{Verdict, refusal, thenJudge, less, anyLine, sumVerdict, sumsJudged}
+use Rattle.acceptance.proofs.LinesTaken.{less-over, less-more, end-right, end-wrong}
 use Rattle.sumlines.specs.declared.SumAt.{SumAt}
 use Rattle.summing.specs.declared.SumsAnswer.{SumsAnswer}
 use Rattle.summing.specs.declared.SumsAnswer.the-variants.{Refused, Passed}
 use Rattle.sumlines.specs.Lines.{sumsAt, heldLine, heldFrom, NumberedFrom, firstIs, Inside, takenLine}
-use Rattle.summing.specs.Judged.{verdictOf, Past, all-left, Reached, LeftBehind}
-use Rattle.summing.proofs.LineOrder.{sums-skip, past-one}
-use Rattle.summing.proofs.NextLine.{NextLine, next-line, lines-are, its-kind, its-sum, next-reached, no-line-left, next-item}
-
--- one line taken away from a polynomial
-module _ (K : Operations) (O : Order) (G : Family) (f : Poly) (s : SumLine) (ss : List SumLine) where
-  less-over : 512 < length (takeAway K O G f (lineOf s)) → lessLines K O G f (s ∷ ss) ≡ over (s .line)
-  unfolding lessLines
-  less-over h = rw (lessLines, lt-ltb 512 (length (takeAway K O G f (lineOf s))) h)
-
-  less-more : length (takeAway K O G f (lineOf s)) ≤ 512 → lessLines K O G f (s ∷ ss) ≡ lessLines K O G (takeAway K O G f (lineOf s)) ss
-  unfolding lessLines
-  less-more h = rw (lessLines, le-ltb 512 (length (takeAway K O G f (lineOf s))) h)
-
--- the verdict of an item of which no line is left
-sum-right : (number i : ℕ) (K : Operations) (O : Order) (G : Family) (c l w o : List ℕ) → sumVerdict number i (lessLines K O G (formula c l w o 0) []) ≡ fine
-unfolding sumVerdict lessLines terms
-sum-right number i K O G c l w o = refl
-
-sum-wrong : (number i : ℕ) (K : Operations) (O : Order) (G : Family) (c l w o : List ℕ) (n : ℕ) → 0 < n → sumVerdict number i (lessLines K O G (formula c l w o n) []) ≡ refusal number i
-unfolding sumVerdict lessLines terms
-sum-wrong number i K O G c l w o zero h = absurd (omega arith)
-sum-wrong number i K O G c l w o (suc n) h = refl
+use Rattle.sumorder.specs.Reached.{Past, all-left, Reached}
+use Rattle.summing.specs.Judged.{verdictOf, LeftBehind}
+use Rattle.sumorder.proofs.LineOrder.{sums-skip, past-one}
+use Rattle.sumorder.proofs.NextLine.{none-left, some-left, NextLine, next-line, lines-are, its-kind, its-sum, next-reached, no-line-left, next-item}
 
 module _ (h : Head) (number kind : ℕ) (bytes : List ℕ) (G : Family) (fs : List Poly) (ss₀ : List SumLine) where
   abbrev K : Operations
@@ -59,7 +39,7 @@ module _ (h : Head) (number kind : ℕ) (bytes : List ℕ) (G : Family) (fs : Li
 
   -- the same, where the sum of item g + 1 has come to f
   abbrev linesFrom : List SumLine → ℕ → Poly → Verdict
-  linesFrom ss g f = thenJudge (sumVerdict number (g + 1) (lessLines K wordOrder G f (sumOf kind (g + 1) ss))) (itemsFrom ss (g + 1))
+  linesFrom ss g f = thenJudge (sumVerdict number (g + 1) (less anyLine K wordOrder G f (sumOf kind (g + 1) ss))) (itemsFrom ss (g + 1))
 
   abbrev whole : Verdict
   whole = sumsJudged number kind K wordOrder G ss₀ fs 1
@@ -102,13 +82,18 @@ module _ (h : Head) (number kind : ℕ) (bytes : List ℕ) (G : Family) (fs : Li
       abbrev ss′ : List SumLine
       ss′ = sumsAt bytes (s .next) (suc line)
 
+      -- there is no test before it
+      any : anyLine (lineOf x) ≡ true
+      unfolding anyLine
+      any = refl
+
       -- the sum of the item begins with this line
-      with-line : thenJudge (sumVerdict number (g + 1) (lessLines K wordOrder G f (x ∷ sumOf kind (g + 1) ss′))) (itemsFrom (x ∷ ss′) (g + 1)) ≡ whole
+      with-line : thenJudge (sumVerdict number (g + 1) (less anyLine K wordOrder G f (x ∷ sumOf kind (g + 1) ss′))) (itemsFrom (x ∷ ss′) (g + 1)) ≡ whole
       with-line = rw (its-sum h kind (g + 1) bytes at line s (d .next) p) at (rw (lines-are h kind (g + 1) bytes at line s (d .next) p) at (d .same))
 
       pub lines-over : (f′ : Poly) → f′ ≡ takeAway K wordOrder G f (takenLine bytes s) → 512 < length f′ → refusal 10 line ≡ whole
       unfolding thenJudge sumVerdict
-      lines-over f′ e l = rw (less-over K wordOrder G f x (sumOf kind (g + 1) ss′) (rw e at l)) at with-line
+      lines-over f′ e l = rw (less-over anyLine K wordOrder G f x (sumOf kind (g + 1) ss′) any (rw e at l)) at with-line
 
       pub lines-next : (f′ : Poly) → f′ ≡ takeAway K wordOrder G f (takenLine bytes s) → length f′ ≤ 512 → (s′ : SumAt)
           → (s′ .present ≡ true → Inside bytes (s .next) s′)
@@ -120,25 +105,24 @@ module _ (h : Head) (number kind : ℕ) (bytes : List ℕ) (G : Family) (fs : Li
           record {
             next = next-line h kind (g + 1) bytes (s .next) (line + 1) s′ (next-reached h kind (g + 1) bytes at line s (d .next) p) i t;
             past = rw (add-one line) (past-one kind (rw (lines-are h kind (g + 1) bytes at line s (d .next) p) at (d .past)) (k .0));
-            same = rw (e, add-one line) (rw (less-more K wordOrder G f x (sumOf kind (g + 1) ss′) (rw e at l), skip) at with-line);
+            same = rw (e, add-one line) (rw (less-more anyLine K wordOrder G f x (sumOf kind (g + 1) ss′) any (rw e at l), skip) at with-line);
           }
 
     module _ (p : firstIs kind (g + 1) (heldFrom bytes line s) ≡ false) where
-      without : thenJudge (sumVerdict number (g + 1) (lessLines K wordOrder G f [])) (itemsFrom ss (g + 1)) ≡ whole
+      without : thenJudge (sumVerdict number (g + 1) (less anyLine K wordOrder G f [])) (itemsFrom ss (g + 1)) ≡ whole
       without = rw (no-line-left h kind (g + 1) bytes at line s (d .next) p) at (d .same)
 
       pub lines-wrong : (c l w o : List ℕ) (n : ℕ) → f ≡ formula c l w o n → 0 < n → refusal number (g + 1) ≡ whole
       unfolding thenJudge
-      lines-wrong c l w o n e z = rw (e, sum-wrong number (g + 1) K wordOrder G c l w o n z) at without
+      lines-wrong c l w o n e z = rw (end-wrong anyLine K wordOrder G number (g + 1) f (some-left c l w o n e z)) at without
 
       pub lines-end : (c l w o : List ℕ) (n : ℕ) → f ≡ formula c l w o n → n ≤ 0 → ItemsDone at line (g + 1) s (Passed at line)
       unfolding thenJudge
       lines-end c l w o n e z =
-          let q : n ≡ 0 = omega arith in
           record {
             next = next-item h kind (g + 1) bytes at line s (d .next) p;
             past = d .past;
-            same = rw (e, q, sum-right number (g + 1) K wordOrder G c l w o) at without;
+            same = rw (end-right anyLine K wordOrder G number (g + 1) f (none-left c l w o n e z)) at without;
             told = refl;
           }
 

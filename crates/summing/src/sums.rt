@@ -14,11 +14,12 @@ ghost use Rattle.working.specs.Family.{familyAt};
 ghost use Rattle.working.specs.Working.{Arranged};
 ghost use Rattle.acceptance.specs.Check.{sumsJudged};
 ghost use Rattle.sumlines.specs.Lines.{sumsAt};
-ghost use Rattle.summing.specs.Judged.{verdictOf, Reached, LeftBehind, Sides};
+ghost use Rattle.sumorder.specs.Reached.{Reached, Sides};
+ghost use Rattle.summing.specs.Judged.{verdictOf, LeftBehind};
 ghost use Rattle.sumlines.specs.Room.{Ready};
 
 // The sums of kind `kind`, for tcount targets over ocount polynomials: their lines stand from the place from on, where the line has the
-// number first. A wrong sum gives the number `number` at its item.
+// number first. A wrong sum gives the number `number` at its item. c, l and w are scratch, and so is buf; o names each place once afterwards too.
 pub fn judge_sums(
     h: Head,
     number: u32,

@@ -1,5 +1,5 @@
 -- `check_read` answers as acceptance is defined: the package that was read is refused by the check's number and place, or accepted.
-use Rattle.checking.specs.Answer.{answerOf}
+use Rattle.overlapchecking.specs.Answer.{answerOf}
 use Rattle.accepting.specs.Slices.{Accepts}
 use Rattle.accepting.proofs.PackageSlices.{rejected-refused, accepted-taken}
 use mathlib.Core.Path.{_≡_}

@@ -1,11 +1,13 @@
-use borrow.Author.Needs.{needs}
 -- `judge_basis` judges refusals 8 and 9.
+use borrow.Author.Needs.{needs}
 use mathlib.Core.Path.{_≡_, sym, ap, _∙_}
 use mathlib.Core.List.{List}
 use Rattle.words.specs.Word.{Word}
 use Rattle.acceptance.specs.Check.{apartJudged}
 use Rattle.checking.specs.Answer.{basisVerdict, HeadsWhere}
-use Rattle.checking.proofs.Joined.{told-refused, told-fine, then-refused, then-fine, basis-are}
+use Rattle.sumlines.proofs.ToldNumbers.{told-refused, told-fine}
+use Rattle.sumorder.proofs.Row.{then-refused, then-fine}
+use Rattle.checking.proofs.Joined.{basis-are}
 use Rattle.checking.proofs.basis.judge_basis.Statement.{statement}
 use Rattle.checking.proofs.basis.judge_basis.Tie as tie
 
@@ -29,7 +31,7 @@ same-length-2 c = search needs
 
 returns : tie.Need-returns
 unfolding basisVerdict HeadsWhere
-returns c = (sym (basis-are _ ∙ then-refused _ _ _ _ (told-refused 8 _ _ (c .before .before .before .before .before .leading-words .ensures .0) (c .if1 .taken))), tt)
+returns c = (sym (basis-are _ ∙ then-refused _ _ _ _ (sym (c .before .before .before .before .before .leading-words .ensures .0) ∙ told-refused 8 _ (c .if1 .taken))), tt)
 
 first-holding-requires : tie.Need-first-holding-requires
 first-holding-requires c κs = c .before .before .before .before .before .before .before .leading-words .ensures .1 (c .before .before .if1 .left) .laid
@@ -46,7 +48,7 @@ returns-2 c =
     let z = c .before .before .before .before .if1 .left in
     let e = c .before .before .before .before .before .before .before .before .before .leading-words .ensures in
     let q = c .before .first-holding .ensures ∙ ap (λ (ws : List Word). apartJudged ws ws 1) (e .1 z .leading) in
-    (sym (basis-are _ ∙ then-fine _ _ (told-fine 8 _ _ (e .0) z) ∙ told-refused 9 _ _ q (c .if2 .taken)), tt)
+    (sym (basis-are _ ∙ then-fine _ _ (sym (e .0) ∙ told-fine 8 _ .1 z) ∙ sym q ∙ told-refused 9 _ (c .if2 .taken)), tt)
 
 same-length-5 : tie.Need-same-length-5
 same-length-5 c = search needs
@@ -60,7 +62,7 @@ returns-3 c =
     let z = c .before .before .before .before .if1 .left in
     let e = c .before .before .before .before .before .before .before .before .before .leading-words .ensures in
     let q = c .before .first-holding .ensures ∙ ap (λ (ws : List Word). apartJudged ws ws 1) (e .1 z .leading) in
-    (sym (basis-are _ ∙ then-fine _ _ (told-fine 8 _ _ (e .0) z) ∙ told-fine 9 _ _ q (c .if2 .left)), e .1 z)
+    (sym (basis-are _ ∙ then-fine _ _ (sym (e .0) ∙ told-fine 8 _ .1 z) ∙ sym q ∙ told-fine 9 _ .1 (c .if2 .left)), e .1 z)
 
 pub judge-basis-spec : {M : Type 1} → statement M
 judge-basis-spec =

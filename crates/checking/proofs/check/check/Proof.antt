@@ -1,8 +1,10 @@
-use borrow.Author.Needs.{needs}
 -- `check` judges 8 and 9, and then the sums.
+use borrow.Author.Needs.{needs}
 use mathlib.Core.Path.{_≡_, sym, ap, _∙_}
 use Rattle.sumlines.proofs.Sizes.{ready-started}
-use Rattle.checking.proofs.Joined.{then-refused, then-fine, answer-refused, answer-same, basis-refused, basis-sound, heads-sound}
+use Rattle.sumorder.proofs.Row.{then-refused}
+use Rattle.overlapchecking.proofs.Answers.{answer-refused}
+use Rattle.checking.proofs.Joined.{sound-answer, basis-refused, basis-sound, heads-sound}
 use Rattle.checking.proofs.check.check.Statement.{statement}
 use Rattle.checking.proofs.check.check.Tie as tie
 
@@ -57,7 +59,7 @@ same-length-10 : tie.Need-same-length-10
 same-length-10 c = search needs
 
 returns-2 : tie.Need-returns-2
-returns-2 c = answer-same _ _ _ _ (c .before .before .before .before .before .before .before .before .before .before .before .before .judge-package .ensures) (then-fine _ _ (basis-sound _ _ (c .before .before .before .before .before .before .before .before .before .before .before .before .before .before .before .before .before .before .before .before .before .before .before .before .before .before .before .before .before .before .before .judge-basis .ensures .0) (c .before .before .before .before .before .before .before .before .before .before .before .before .before .before .before .before .before .before .before .before .before .before .before .before .before .enum-told .given .1)))
+returns-2 c = sound-answer _ _ _ _ _ _ (c .before .before .before .before .before .before .before .before .before .before .before .before .judge-package .ensures) (basis-sound _ _ (c .before .before .before .before .before .before .before .before .before .before .before .before .before .before .before .before .before .before .before .before .before .before .before .before .before .before .before .before .before .before .before .judge-basis .ensures .0) (c .before .before .before .before .before .before .before .before .before .before .before .before .before .before .before .before .before .before .before .before .before .before .before .before .before .enum-told .given .1))
 
 pub check-spec : {M : Type 1} → statement M
 check-spec =

@@ -9,7 +9,8 @@ use Rattle.algebra.specs.Poly.{scale, shift}
 use Rattle.algebra.specs.Written.{plus}
 use Rattle.working.specs.Working.{formula}
 use Rattle.working.specs.Polynomial.{polyAt}
-use Rattle.multiples.proofs.Adding.{Sizes, Adding, rest, rest-all, rest-next, rest-end, adding-next, adding-end}
+use Rattle.working.proofs.Sizes.{Sizes}
+use Rattle.multiples.proofs.Adding.{Adding, rest, rest-all, rest-next, rest-end, adding-next, adding-end}
 use borrow.Author.Needs.{needs}
 use Rattle.multiples.proofs.multiple.add_multiple.Statement.{statement}
 use Rattle.multiples.proofs.multiple.add_multiple.Tie as tie

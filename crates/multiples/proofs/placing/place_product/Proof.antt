@@ -6,7 +6,7 @@ use native.Mathlib.Omega.{arith}
 use lib.ListN.{length, take, drop}
 use Rattle.algebra.specs.Poly.{Poly}
 use Rattle.working.specs.Working.{termAt, formula, Holds}
-use Rattle.multiples.proofs.Adding.{Sizes}
+use Rattle.working.proofs.Sizes.{Sizes}
 use Rattle.multiples.proofs.Products.{holds-none, placedUpTo, placed-none, placed-next}
 use borrow.Author.Needs.{needs}
 use Rattle.multiples.proofs.placing.place_product.Statement.{statement}

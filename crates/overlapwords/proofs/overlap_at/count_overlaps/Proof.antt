@@ -1,5 +1,5 @@
-use borrow.Author.Needs.{needs}
 -- `count_overlaps` counts the overlaps. The loop's invariant: those counted and those left are all.
+use borrow.Author.Needs.{needs}
 use mathlib.Core.Path.{_≡_, refl, ap, sym, _∙_}
 use Prim.Native.Nat.{ℕ, _+_, _-_, _*_, _≤_}
 use native.Mathlib.Omega.{arith}

@@ -1,5 +1,5 @@
-use borrow.Author.Needs.{needs}
 -- `first_overlap` finds the first overlap of all.
+use borrow.Author.Needs.{needs}
 use mathlib.Core.Path.{_≡_, _∙_}
 use Rattle.overlaps.proofs.Positions.{at-origin}
 use Rattle.overlapwords.proofs.OverlapWalk.{placed-origin}

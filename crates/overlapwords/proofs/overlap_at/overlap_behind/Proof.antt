@@ -1,10 +1,10 @@
-use borrow.Author.Needs.{needs}
 -- `overlap_behind` finds the overlap behind one.
+use borrow.Author.Needs.{needs}
 use mathlib.Core.Path.{_≡_, sym, subst}
 use mathlib.Core.Bool.{true, false}
 use Rattle.words.specs.Laid.{laidWords}
 use Rattle.overlaps.specs.Position.{overlapsAt, ordinal, Placed, FoundAt}
-use Rattle.overlapwords.specs.OverlapPlaces.{cursorOf, seenOverlaps}
+use Rattle.overlapwords.specs.OverlapPlaces.{cursorOf, behindAll, seenOverlaps}
 use Rattle.overlapwords.proofs.OverlapWalk.{behind-is}
 use Rattle.overlapwords.proofs.overlap_at.overlap_behind.Statement.{statement}
 use Rattle.overlapwords.proofs.overlap_at.overlap_behind.Tie as tie
@@ -24,7 +24,7 @@ returns c =
     let r = c .overlap-from .result in
     subst
     (λ d. (seenOverlaps (laidWords (s .heads .now) (s .headlens .now) (s .bytes .now) (s .n)) r ≡ overlapsAt (laidWords (s .heads .now) (s .headlens .now) (s .bytes .now) (s .n)) d)
-    × ((r .present ≡ true → FoundAt (s .headlens .now) (s .n) d (cursorOf r)) × (r .present ≡ false → ordinal (cursorOf r) ≡ 99841)))
+    × ((r .present ≡ true → FoundAt (s .headlens .now) (s .n) d (cursorOf r)) × (r .present ≡ false → ordinal (cursorOf r) ≡ behindAll)))
     (behind-is (s .f)) (c .overlap-from .ensures)
 
 pub overlap-behind-spec : {M : Type 1} → statement M

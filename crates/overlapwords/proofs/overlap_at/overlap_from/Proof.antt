@@ -1,5 +1,5 @@
-use borrow.Author.Needs.{needs}
 -- `overlap_from` finds the first overlap from a place on.
+use borrow.Author.Needs.{needs}
 use mathlib.Core.Path.{_≡_, refl, sym, _∙_}
 use mathlib.Core.Bool.{true≢false}
 use Rattle.overlapwords.proofs.OverlapWalk.{search-found, search-done}

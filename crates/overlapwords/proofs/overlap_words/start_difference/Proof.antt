@@ -7,7 +7,8 @@ use Rattle.words.specs.Order.{wordOrder}
 use Rattle.words.proofs.WordOrder.{word-order-admissible}
 use Rattle.overlaps.specs.Position.{overlapOf}
 use Rattle.overlapwords.specs.OverlapPlaces.{cursorOf}
-use Rattle.sumlines.proofs.Targets.{one-below, family-written}
+use Rattle.working.proofs.Families.{family-written}
+use Rattle.sumlines.proofs.Targets.{one-below}
 use Rattle.overlapwords.proofs.OverlapTexts.{rest-lead, front-lead, product-written, difference-held}
 use borrow.Author.Needs.{needs}
 use Rattle.overlapwords.proofs.overlap_words.start_difference.Statement.{statement}

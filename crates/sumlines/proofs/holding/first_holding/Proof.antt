@@ -1,5 +1,5 @@
-use borrow.Author.Needs.{needs}
 -- `first_holding` judges refusal 9. The loop's invariant: the words left to look at give the verdict.
+use borrow.Author.Needs.{needs}
 use mathlib.Core.Path.{_≡_, refl, sym, _∙_}
 use Prim.Native.Nat.{_+_, _-_, _≤_}
 use native.Mathlib.Omega.{arith}

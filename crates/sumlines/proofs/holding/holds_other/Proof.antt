@@ -1,5 +1,5 @@
-use borrow.Author.Needs.{needs}
 -- `holds_other` says whether another word stands inside word a. The loop's invariant: the words left to look at decide.
+use borrow.Author.Needs.{needs}
 use mathlib.Core.Path.{_≡_, refl, sym, _∙_}
 use Prim.Native.Nat.{_+_, _-_, _≤_}
 use native.Mathlib.Omega.{arith}

@@ -1,5 +1,5 @@
-use borrow.Author.Needs.{needs}
 -- `is_held` says whether another word stands inside a word.
+use borrow.Author.Needs.{needs}
 use mathlib.Core.Path.{_≡_, sym, _∙_}
 use native.Mathlib.Omega.{arith}
 use Rattle.lists.proofs.Parts.{part-end}

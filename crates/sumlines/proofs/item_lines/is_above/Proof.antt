@@ -1,5 +1,5 @@
-use borrow.Author.Needs.{needs}
 -- `is_above` says whether a line meets refusal 15.
+use borrow.Author.Needs.{needs}
 use mathlib.Core.Path.{_≡_}
 use Rattle.sumlines.proofs.AboveCount.{above-not, above-test}
 use Rattle.sumlines.proofs.item_lines.is_above.Statement.{statement}

@@ -1,5 +1,5 @@
-use borrow.Author.Needs.{needs}
 -- `judge_items` judges refusal 15. The loop's invariant: the lines left to look at give the verdict.
+use borrow.Author.Needs.{needs}
 use mathlib.Core.Path.{_≡_, refl, sym, _∙_}
 use Prim.Native.Nat.{_-_, _≤_}
 use native.Mathlib.Omega.{arith}

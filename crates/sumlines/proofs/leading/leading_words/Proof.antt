@@ -1,5 +1,5 @@
-use borrow.Author.Needs.{needs}
 -- `leading_words` judges refusal 8. The loop's invariant: what is left to judge gives the verdict, and the leading words before are laid.
+use borrow.Author.Needs.{needs}
 use mathlib.Core.Path.{_≡_, sym, _∙_}
 use Prim.Native.Nat.{_+_, _-_, _≤_}
 use native.Mathlib.Omega.{arith}

@@ -1,5 +1,5 @@
-use borrow.Author.Needs.{needs}
 -- `is_item` says whether a line is one of an item.
+use borrow.Author.Needs.{needs}
 use mathlib.Core.Path.{_≡_, sym}
 use borrow.Author.Tests.{not-true, not-false}
 use Rattle.sumlines.proofs.LineReading.{not-present, other-kind, same-kind}

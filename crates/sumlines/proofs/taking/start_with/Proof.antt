@@ -1,6 +1,7 @@
 -- `start_with` places the polynomial.
 use native.Mathlib.Omega.{arith}
-use Rattle.sumlines.proofs.Targets.{family-written, target-held}
+use Rattle.working.proofs.Families.{family-written}
+use Rattle.sumlines.proofs.Targets.{target-held}
 use borrow.Author.Needs.{needs}
 use Rattle.sumlines.proofs.taking.start_with.Statement.{statement}
 use Rattle.sumlines.proofs.taking.start_with.Tie as tie

@@ -1,5 +1,5 @@
-use borrow.Author.Needs.{needs}
 -- `judge_sums` judges the sums of a kind. The outer loop's invariant: what is left of the items gives the verdict; the inner loop's: what is left of the item's lines does.
+use borrow.Author.Needs.{needs}
 use mathlib.Core.Path.{_≡_, refl, sym, subst, _∙_}
 use Prim.Native.Nat.{_+_, _-_, _≤_}
 use native.Mathlib.Omega.{arith}
@@ -11,8 +11,9 @@ use Rattle.working.proofs.Terms.{terms-length}
 use Rattle.summing.specs.Judged.{verdictOf, LeftBehind}
 use Rattle.sumlines.specs.Room.{Ready}
 use Rattle.sumlines.specs.Lines.{sumsAt, LineFits}
-use Rattle.sumlines.proofs.Sizes.{Sizes, kept-sizes, same-sizes, then-sizes, kept-places, kept-ready, family-length, family-end}
-use Rattle.summing.proofs.NextLine.{next-fits, next-low, next-further}
+use Rattle.working.proofs.Sizes.{Sizes, kept-sizes, same-sizes, then-sizes}
+use Rattle.sumlines.proofs.Sizes.{kept-places, kept-ready, family-length, family-end}
+use Rattle.sumorder.proofs.NextLine.{next-fits, next-low, next-further}
 use Rattle.summing.proofs.SumsJudging.{ItemsDone, LinesDone, items-start, lines-start, lines-over, lines-next, lines-wrong, lines-end, items-end}
 use Rattle.summing.proofs.sums.judge_sums.Statement.{statement}
 use Rattle.summing.proofs.sums.judge_sums.Tie as tie

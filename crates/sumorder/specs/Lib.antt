@@ -1,0 +1,3 @@
+pub mod Slices
+pub mod Reached
+pub mod Row
