@@ -114,7 +114,7 @@ pub extern "C" fn vg_list_overlaps(package: &[u8], out: &mut [u8]) -> Listed
         &mut firsts,
     );
     match r {
-        Reading::Refusal { number, place } => refusal(number as u64, place as u64),
+        Reading::Refused(v) => refusal(v.number as u64, v.place as u64),
         Reading::Whole {
             head,
             terms,
