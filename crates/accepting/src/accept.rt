@@ -89,9 +89,9 @@ pub fn accept(
     let mut items = [0u32; 1024];
     let r = read_package(package, &mut kinds, &mut items, coefs, starts, lens, firsts);
     match r {
-        Reading::Refusal { number, place } => Accepting::Turned {
-            number: number,
-            place: place,
+        Reading::Refused(v) => Accepting::Turned {
+            number: v.number,
+            place: v.place,
         },
         Reading::Whole {
             head,

@@ -10,7 +10,7 @@ use native.Mathlib.Decide.{ℕ-discrete}
 use lib.ListN.{length, getD, drop, set, length-append, drop-of-length-le}
 use lib.Seq.{drop-cons, getD-set-same, getD-set-other}
 use Rattle.algebra.specs.Poly.{Term}
-use Rattle.package.specs.Formula.{wrongAt, formula, noRow, row, judgeRow, ended, rows, formulaLines, readFormula}
+use Rattle.package.specs.Formula.{wrongAt, formula, noRow, row, judgeRow, rowsEnd, rows, formulaLines, readFormula}
 use Rattle.package.specs.Held.{Inside, rowsHeld}
 use Rattle.package.specs.Names.{formulaNames}
 use Rattle.package.specs.declared.Limits.{Limits}
@@ -21,12 +21,12 @@ use Rattle.text.specs.Word.{word}
 
 module _ (p letters : ℕ) (lim : Limits) (v : List ℕ) (ts : List Term) (line : ℕ) (s : List ℕ) (at : ℕ) where
   pub rows-end : length s ≤ at → formula ts ≡ rows p letters lim v ts line (lines (drop at s))
-  unfolding rows pieces ended
+  unfolding rows pieces rowsEnd
   rows-end z = rw (drop-of-length-le s z)
 
   module _ (e : ℕ) (q : e ≡ at + stop 10 (drop at s)) where
     pub rows-missing : at < length s → length s ≤ e → wrongAt line ≡ rows p letters lim v ts line (lines (drop at s))
-    unfolding rows ended
+    unfolding rows rowsEnd
     rows-missing y z = rw (cut-end 10 s at e q z, drop-cons s at 0 y)
 
     module _ (z : e < length s) where

@@ -30,10 +30,10 @@ pub fn read_row(l: &[u8]) -> RowRead
         next: a,
     } = inner_number(l, 0)
     else {
-        return RowRead::NoRow;
+        return RowRead::Refused;
     };
     let WordLen::Letters(len) = last_word(l, a) else {
-        return RowRead::NoRow;
+        return RowRead::Refused;
     };
     RowRead::Row {
         coef: coef,
@@ -86,13 +86,13 @@ fn judge_row(
         len: k,
     } = read_row(&s[at..e])
     else {
-        return RowRead::NoRow;
+        return RowRead::Refused;
     };
     let b = at + a;
     let c = b + k;
     let d = start + len;
     if !row_fits(p, letters, m, &s[start..d], n, coef, &s[b..c]) {
-        return RowRead::NoRow;
+        return RowRead::Refused;
     }
     RowRead::Row {
         coef: coef,
@@ -145,7 +145,7 @@ fn read_rows(
     while at < s.len() {
         let e = find(s, at, 10);
         if s.len() <= e {
-            return FormulaRead::WrongAt(line);
+            return FormulaRead::Refused(line);
         }
         let RowRead::Row {
             coef,
@@ -153,7 +153,7 @@ fn read_rows(
             len: k,
         } = judge_row(p, letters, m, s, n, start, len, at, e)
         else {
-            return FormulaRead::WrongAt(line);
+            return FormulaRead::Refused(line);
         };
         store_row(coefs, starts, lens, n, coef, a, k);
         start = a;
@@ -166,6 +166,7 @@ fn read_rows(
 }
 
 // A formula under the prime p, with so many letters in use: refusal 16 with its line, or the number of its terms, which the three slices hold.
+// Where it is refused they are scratch: they hold the terms above the refused line, and nothing is promised of them.
 pub fn read_formula(
     s: &[u8],
     p: u32,
@@ -182,10 +183,10 @@ pub fn read_formula(
 {
     let e = find(s, 0, 10);
     if s.len() <= e {
-        return FormulaRead::WrongAt(1);
+        return FormulaRead::Refused(1);
     }
     if !is_formula_names(&s[0..e]) {
-        return FormulaRead::WrongAt(1);
+        return FormulaRead::Refused(1);
     }
     read_rows(s, p, letters, m, e + 1, coefs, starts, lens)
 }

@@ -18,24 +18,24 @@ pub fn read_head(l: &[u8]) -> HeadRead
     ensures { λ r. ⌜ seenHead r ≡ headForm (fields (now (l .entry))) ⌝ }
 {
     let NumAt::Read { value: p, next: a } = inner_number(l, 0) else {
-        return HeadRead::NoCounts;
+        return HeadRead::Misshapen;
     };
     let NumAt::Read {
         value: letters,
         next: b,
     } = inner_number(l, a)
     else {
-        return HeadRead::NoCounts;
+        return HeadRead::Misshapen;
     };
     let NumAt::Read {
         value: gens,
         next: c,
     } = inner_number(l, b)
     else {
-        return HeadRead::NoCounts;
+        return HeadRead::Misshapen;
     };
     let Num::Value(basis) = last_number(l, c) else {
-        return HeadRead::NoCounts;
+        return HeadRead::Misshapen;
     };
     HeadRead::Counts {
         p: p,

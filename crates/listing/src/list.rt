@@ -113,7 +113,7 @@ pub fn list_package(package: &[u8], out: &mut [u8]) -> Listed
         &mut firsts,
     );
     match r {
-        Reading::Refusal { number, place } => refusal(number as u64, place as u64),
+        Reading::Refused(v) => refusal(v.number as u64, v.place as u64),
         Reading::Whole {
             head,
             terms,

@@ -8,7 +8,6 @@ use Rattle.package.specs.Head.{HeadForm, noHead, head, headForm, countsF
 use Rattle.package.specs.Held.{seenHead}
 use Rattle.package.specs.declared.Head.{Head}
 use Rattle.package.specs.declared.HeadRead.{HeadRead}
-use Rattle.package.specs.declared.HeadRead.the-variants.{NoCounts, Counts}
 use Rattle.text.proofs.Bytewise.{within-bounds}
 use Rattle.text.specs.Bytes.{within}
 use Rattle.text.specs.Field.{none, some, numThen, numLast}
@@ -63,11 +62,11 @@ module _ (h : Head) where
 
 -- What an answer says of the line.
 module _ (r : HeadRead) (x : HeadForm) where
-  pub seen-no-head : r ≡ NoCounts → seenHead r ≡ x → x ≡ noHead
+  pub seen-no-head : r ≡ HeadRead.Misshapen → seenHead r ≡ x → x ≡ noHead
   unfolding seenHead
   seen-no-head q h = sym h ∙ rw q
 
-  pub seen-head : (p l g b : ℕ) → r ≡ Counts p l g b → seenHead r ≡ x → x ≡ head (record { p = p; letters = l; gens = g; basis = b })
+  pub seen-head : (p l g b : ℕ) → r ≡ HeadRead.Counts p l g b → seenHead r ≡ x → x ≡ head (record { p = p; letters = l; gens = g; basis = b })
   unfolding seenHead
   seen-head p l g b q h = sym h ∙ rw q
 

@@ -14,7 +14,6 @@ use Rattle.package.specs.Formula.{TermRow, noRow, row, rowForm, rowFits,
 use Rattle.package.specs.Held.{seenRow, reachRow}
 use Rattle.package.specs.declared.Limits.{Limits}
 use Rattle.package.specs.declared.RowRead.{RowRead}
-use Rattle.package.specs.declared.RowRead.the-variants.{NoRow, Row}
 use Rattle.lists.proofs.Parts.{part-part}
 use Rattle.text.specs.Field.{none, some, numThen, wordLast}
 use Rattle.text.specs.Number.{number}
@@ -81,19 +80,19 @@ module _ (p letters : ℕ) (lim : Limits) (v : List ℕ) (n : ℕ) (s : List ℕ
 
 -- What an answer says of the line.
 module _ (l : List ℕ) (r : RowRead) (x : TermRow) where
-  pub seen-no-row : r ≡ NoRow → seenRow l r ≡ x → x ≡ noRow
+  pub seen-no-row : r ≡ RowRead.Refused → seenRow l r ≡ x → x ≡ noRow
   unfolding seenRow
   seen-no-row q h = sym h ∙ rw q
 
-  pub seen-row : (c a n : ℕ) → r ≡ Row c a n → seenRow l r ≡ x → x ≡ row c (part l a n)
+  pub seen-row : (c a n : ℕ) → r ≡ RowRead.Row c a n → seenRow l r ≡ x → x ≡ row c (part l a n)
   unfolding seenRow
   seen-row c a n q h = sym h ∙ rw q
 
-pub reach-row : (r : RowRead) (c a n m : ℕ) → r ≡ Row c a n → reachRow r ≤ m → a + n ≤ m
+pub reach-row : (r : RowRead) (c a n m : ℕ) → r ≡ RowRead.Row c a n → reachRow r ≤ m → a + n ≤ m
 unfolding reachRow
 reach-row r c a n m q h = rw q at h
 
-pub reach-row-part : (s : List ℕ) (at e : ℕ) (r : RowRead) (c a n : ℕ) → at ≤ e → e ≤ length s → r ≡ Row c a n → reachRow r ≤ length
+pub reach-row-part : (s : List ℕ) (at e : ℕ) (r : RowRead) (c a n : ℕ) → at ≤ e → e ≤ length s → r ≡ RowRead.Row c a n → reachRow r ≤ length
     (take (e - at) (drop at s)) → a + n ≤ e - at
 reach-row-part s at e r c a n h z q b =
     let b′ = reach-row r c a n (length (take (e - at) (drop at s))) q b in

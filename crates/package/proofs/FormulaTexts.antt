@@ -12,7 +12,7 @@ use Rattle.package.proofs.LineBounds.{coef-below, word-letters}
 use Rattle.package.specs.Bounds.{coefFits, wordFits}
 use Rattle.words.specs.Below.{isBelow}
 use Rattle.algebra.specs.Poly.{Term}
-use Rattle.package.specs.Formula.{wrongAt, formula, TermRow, noRow, row, rowForm, rowFits, rowJudged, judgeRow, ended, rows, formulaLines, readFormula}
+use Rattle.package.specs.Formula.{wrongAt, formula, TermRow, noRow, row, rowForm, rowFits, rowJudged, judgeRow, rowsEnd, rows, formulaLines, readFormula}
 use Rattle.package.specs.Names.{formulaNames}
 use Rattle.package.specs.Readable.{RowsInOrder, noRows, rowThen}
 use Rattle.package.specs.Writing.{rowFields, rowLines, writeFormula}
@@ -76,7 +76,7 @@ record RowsText (p letters : ℕ) (lim : Limits) (v : List ℕ) (ts₀ : List Te
 
 module _ (p letters : ℕ) (lim : Limits) (ts : List Term) where
   rows-text : (ps : Pieces) (v : List ℕ) (ts₀ : List Term) (n : ℕ) → rows p letters lim v ts₀ n ps ≡ formula ts → RowsText p letters lim v ts₀ ps ts
-  unfolding rows ended rowLines
+  unfolding rows rowsEnd rowLines
   rows-text (final []) v ts₀ n e =
       let x : ts₀ ≡ ts = cc in
       record { more = []; terms = sym x ∙ sym (append-nil ts₀); cut = refl; order = noRows }
@@ -143,7 +143,7 @@ names-clear = without-final formulaNames refl
 module _ (p letters : ℕ) (lim : Limits) (a : p ≤ 65521) (b : letters ≤ 26) where
   text-rows : (v : List ℕ) (ts₀ ts : List Term) (n m : ℕ) → length ts₀ ≡ m → RowsInOrder p letters lim v m ts
       → rows p letters lim v ts₀ n (rowLines ts) ≡ formula (ts₀ ++ ts)
-  unfolding rows rowLines ended judgeRow rowJudged
+  unfolding rows rowLines rowsEnd judgeRow rowJudged
   text-rows v ts₀ [] n m e noRows = rw append-nil
   text-rows v ts₀ (t ∷ ts) n m e (rowThen o os) =
       let q = row-numbers p letters lim v m (t .coef) (t .word) a b o in

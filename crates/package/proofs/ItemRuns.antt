@@ -12,6 +12,7 @@ use borrow.Author.Tests.{lt-ltb, le-ltb, eq-eqb, ne-eqb, ltb-true, eqb-true}
 use Rattle.package.specs.Bounds.{coefFits, wordFits}
 use Rattle.words.specs.Below.{isBelow}
 use Rattle.package.specs.Items.{slot, slotsOf, firstOf, itemRun, itemTerms}
+use Rattle.package.specs.Names.{termG, termB}
 use Rattle.package.specs.Package.{Package, packageLimits}
 use Rattle.package.specs.Readable.{under, TermsInOrder, noTerms, termThen, Readable}
 use Rattle.package.specs.Terms.{TermLine, itemsOf, termFits, LineAbove, start, follows}
@@ -73,12 +74,12 @@ run-numbered h j b (t ∷ ts) (rises m r) = go (decLt (slot h (t .kind) (t .item
 
 -- Kinds and items in range: the kind is G or B, and the item one of its kind.
 record InRange (h : Head) (k i : ℕ) : Type 0 where
-  low : 1 ≤ k
-  high : k ≤ 2
+  low : termG ≤ k
+  high : k ≤ termB
   first : 1 ≤ i
   last : i ≤ itemsOf h k
 
-in-range : (h : Head) (lim : Limits) (k i c : ℕ) (w : List ℕ) → within 1 2 k ≡ true → termFits h lim k i c w ≡ true → InRange h k i
+in-range : (h : Head) (lim : Limits) (k i c : ℕ) (w : List ℕ) → within termG termB k ≡ true → termFits h lim k i c w ≡ true → InRange h k i
 unfolding termFits
 in-range h lim k i c w r = go (within 1 (itemsOf h k) i) refl
   where
@@ -86,45 +87,45 @@ in-range h lim k i c w r = go (within 1 (itemsOf h k) i) refl
         (elim t [ false ↦ false | true ↦ elim (coefFits (h .p) c) [ false ↦ false | true ↦ wordFits (lim .len) (h .letters) w ] ]) true → InRange h k i
     go false e q = absurd (false≢true q)
     go true e q =
-        let a = within-bounds 1 2 k r in
+        let a = within-bounds termG termB k r in
         let b = within-bounds 1 (itemsOf h k) i e in
         record { low = a .0; high = a .1; first = b .0; last = b .1 }
 
-slot-relation : (h : Head) (i : ℕ) → slot h 1 i ≡ i
+slot-relation : (h : Head) (i : ℕ) → slot h termG i ≡ i
 unfolding slot
 slot-relation h i = refl
 
-slot-basis : (h : Head) (i : ℕ) → slot h 2 i ≡ h .gens + i
+slot-basis : (h : Head) (i : ℕ) → slot h termB i ≡ h .gens + i
 unfolding slot
 slot-basis h i = refl
 
-relation-items : (h : Head) → itemsOf h 1 ≡ h .gens
+relation-items : (h : Head) → itemsOf h termG ≡ h .gens
 unfolding itemsOf
 relation-items h = refl
 
-one-or-two : (k : ℕ) → 1 ≤ k → k ≤ 2 → (k ≡ 1) ⊎ (k ≡ 2)
-one-or-two zero l u = absurd (omega arith)
-one-or-two (suc zero) l u = inl refl
-one-or-two (suc (suc zero)) l u = inr refl
-one-or-two (suc (suc (suc k))) l u = absurd (omega arith)
+relation-or-basis : (k : ℕ) → termG ≤ k → k ≤ termB → (k ≡ termG) ⊎ (k ≡ termB)
+relation-or-basis zero l u = absurd (omega arith)
+relation-or-basis (suc zero) l u = inl refl
+relation-or-basis (suc (suc zero)) l u = inr refl
+relation-or-basis (suc (suc (suc k))) l u = absurd (omega arith)
 
-basis-items : (h : Head) → itemsOf h 2 ≡ h .basis
+basis-items : (h : Head) → itemsOf h termB ≡ h .basis
 unfolding itemsOf
 basis-items h = refl
 
 -- No item has a number above that of the last one.
-pub slot-most : (h : Head) (k i : ℕ) → within 1 2 k ≡ true → within 1 (itemsOf h k) i ≡ true → slot h k i ≤ h .gens + h .basis
-slot-most h k i a b = go (one-or-two k (within-bounds 1 2 k a .0) (within-bounds 1 2 k a .1)) (within-bounds 1 (itemsOf h k) i b .1)
+pub slot-most : (h : Head) (k i : ℕ) → within termG termB k ≡ true → within 1 (itemsOf h k) i ≡ true → slot h k i ≤ h .gens + h .basis
+slot-most h k i a b = go (relation-or-basis k (within-bounds termG termB k a .0) (within-bounds termG termB k a .1)) (within-bounds 1 (itemsOf h k) i b .1)
   where
-    go : (k ≡ 1) ⊎ (k ≡ 2) → i ≤ itemsOf h k → slot h k i ≤ h .gens + h .basis
+    go : (k ≡ termG) ⊎ (k ≡ termB) → i ≤ itemsOf h k → slot h k i ≤ h .gens + h .basis
     go (inl p) l = let z : i ≤ h .gens = rw (p, relation-items) at l in rw (p, slot-relation) (omega arith)
     go (inr p) l = let z : i ≤ h .basis = rw (p, basis-items) at l in rw (p, slot-basis) (omega arith)
 
 -- Items are numbered in the order of kinds and items.
 slot-order : (h : Head) (k i k′ i′ : ℕ) → InRange h k i → InRange h k′ i′ → ((k < k′) ⊎ ((k ≡ k′) × (i ≤ i′))) → slot h k i ≤ slot h k′ i′
-slot-order h k i k′ i′ a b o = go (one-or-two k (a .low) (a .high)) (one-or-two k′ (b .low) (b .high)) o
+slot-order h k i k′ i′ a b o = go (relation-or-basis k (a .low) (a .high)) (relation-or-basis k′ (b .low) (b .high)) o
   where
-    go : (k ≡ 1) ⊎ (k ≡ 2) → (k′ ≡ 1) ⊎ (k′ ≡ 2) → ((k < k′) ⊎ ((k ≡ k′) × (i ≤ i′))) → slot h k i ≤ slot h k′ i′
+    go : (k ≡ termG) ⊎ (k ≡ termB) → (k′ ≡ termG) ⊎ (k′ ≡ termB) → ((k < k′) ⊎ ((k ≡ k′) × (i ≤ i′))) → slot h k i ≤ slot h k′ i′
     go (inl p) (inl q) (inl l) = absurd (omega arith)
     go (inl p) (inl q) (inr l) = rw (p, q, slot-relation, slot-relation) (l .1)
     go (inl p) (inr q) o =
@@ -137,9 +138,9 @@ slot-order h k i k′ i′ a b o = go (one-or-two k (a .low) (a .high)) (one-or-
 
 -- No two items have one number.
 slot-own : (h : Head) (k i k′ i′ : ℕ) → InRange h k i → InRange h k′ i′ → slot h k i ≡ slot h k′ i′ → (k ≡ k′) × (i ≡ i′)
-slot-own h k i k′ i′ a b e = go (one-or-two k (a .low) (a .high)) (one-or-two k′ (b .low) (b .high))
+slot-own h k i k′ i′ a b e = go (relation-or-basis k (a .low) (a .high)) (relation-or-basis k′ (b .low) (b .high))
   where
-    go : (k ≡ 1) ⊎ (k ≡ 2) → (k′ ≡ 1) ⊎ (k′ ≡ 2) → (k ≡ k′) × (i ≡ i′)
+    go : (k ≡ termG) ⊎ (k ≡ termB) → (k′ ≡ termG) ⊎ (k′ ≡ termB) → (k ≡ k′) × (i ≡ i′)
     go (inl p) (inl q) = (p ∙ sym q, rw (p, q, slot-relation, slot-relation) at e)
     go (inl p) (inr q) =
         let z : i ≤ h .gens = rw (p, relation-items) at (a .last) in
@@ -205,10 +206,10 @@ module _ (h : Head) (lim : Limits) where
             rw (numbered, ne-eqb (slot h (t .kind) (t .item)) (slot h k i) z, itemTerms, ne-eqb (t .kind) k p) ih
 
 -- The theorem: in a readable package the terms of item i of a kind are those from where it starts to where the next item starts.
-pub item-run : (P : Package) → Readable P → (k i : ℕ) → within 1 2 k ≡ true → within 1 (itemsOf (P .head) k) i ≡ true
+pub item-run : (P : Package) → Readable P → (k i : ℕ) → within termG termB k ≡ true → within 1 (itemsOf (P .head) k) i ≡ true
     → itemRun (P .head) (slot (P .head) k i) (P .terms) ≡ itemTerms k i (P .terms)
 item-run P r k i a b =
-    let x = within-bounds 1 2 k a in
+    let x = within-bounds termG termB k a in
     let y = within-bounds 1 (itemsOf (P .head) k) i b in
     let q : InRange (P .head) k i = record { low = x .0; high = x .1; first = y .0; last = y .1 } in
     run-numbered (P .head) (slot (P .head) k i) 0 (P .terms) (rising-start (P .head) packageLimits (P .terms) (r .terms))

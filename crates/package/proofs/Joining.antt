@@ -1,4 +1,4 @@
--- Lines 1 to 3 and the blocks together: one law for each way through the readers.
+-- The head lines and the blocks in a row: one law for each way through the reader, and what the answers of its parts say.
 use mathlib.Core.Path.{_≡_, sym, ap, _∙_}
 use mathlib.Core.Bool.{true, false}
 use mathlib.Core.List.{List, []}
@@ -6,131 +6,175 @@ use Prim.Native.Nat.{ℕ, _+_, _-_, _≤_, _<_}
 use native.Mathlib.Omega.{arith}
 use lib.ListN.{length, drop}
 use borrow.Author.Tests.{lt-ltb, le-ltb}
+use Rattle.package.proofs.HeadTexts.{head-lines-text}
 use Rattle.package.proofs.TermBlockTexts.{block2-text}
-use Rattle.package.proofs.TermSlices.{kept-length}
+use Rattle.package.specs.Answer.{Answer, refused, read, _then_}
 use Rattle.package.specs.Head.{noHead, head, headForm, primeFits, countsFit}
-use Rattle.package.specs.Held.{kept, seen2, spotOf, lineOf, countOf, Inside, seen3}
+use Rattle.package.specs.Held.{seenNames, seenCounts, seenHeadLines, kept, seenTerms, seenSums}
 use Rattle.package.specs.Names.{headNames, termNames}
-use Rattle.package.specs.Package.{refused, read, lastBlock, lowerBlocks, line3, headed, line2, line1, readWith}
-use Rattle.package.specs.Sums.{Block3, refused3, fine, block3, sumsOf}
-use Rattle.package.specs.Terms.{TermLine, start, Block2, refused2, ended2, block2}
-use Rattle.package.specs.declared.Ended.{Ended}
-use Rattle.package.specs.declared.Ended.the-variants.{Refused, Names}
+use Rattle.package.specs.Package.{namesLine, Counted, countsJudged, countsLine, HeadBlock, firstTerm, firstSum, termNamesLine, headLines, termBlock, sumBlock, sized, readWith}
+use Rattle.package.specs.Sums.{sumsRead, block3, sumsOf}
+use Rattle.package.specs.Terms.{start, TermBlock, termsRead, block2}
+use Rattle.package.specs.declared.CountsAt.{CountsAt}
+use Rattle.package.specs.declared.CountsRead.{CountsRead}
 use Rattle.package.specs.declared.Head.{Head}
+use Rattle.package.specs.declared.HeadAt.{HeadAt}
+use Rattle.package.specs.declared.HeadEnded.{HeadEnded}
 use Rattle.package.specs.declared.Limits.{Limits}
-use Rattle.package.specs.declared.Sums.{Sums}
-use Rattle.package.specs.declared.Sums.the-variants.{Fault, Sound}
+use Rattle.package.specs.declared.NamesRead.{NamesRead}
+use Rattle.package.specs.declared.Refusal.{Refusal}
+use Rattle.package.specs.declared.SumsEnded.{SumsEnded}
+use Rattle.package.specs.declared.TermsAt.{TermsAt}
+use Rattle.package.specs.declared.TermsEnded.{TermsEnded}
 use Rattle.text.proofs.Cutting.{cut-more, cut-end}
 use Rattle.lists.specs.Same.{same}
 use Rattle.text.specs.Pieces.{Pieces, lines, fields, stop, part}
 
--- What the answers of the blocks say.
-module _ (s ks is cs os ls : List ℕ) (r : Ended) (x : Block2) where
-  pub seen-refused : (v n : ℕ) → r ≡ Refused v n → seen2 s ks is cs os ls r ≡ x → x ≡ refused2 v n
-  unfolding seen2
-  seen-refused v n q h = sym h ∙ rw q
+-- What the answers of the parts say.
+module _ (s : List ℕ) (n : ℕ) (r : NamesRead) (x : Answer Pieces) where
+  pub seen-other : r ≡ NamesRead.Misshapen → seenNames s n r ≡ x → x ≡ refused 2 n
+  unfolding seenNames
+  seen-other q h = sym h ∙ rw q
 
-  pub seen-names : (m at n : ℕ) → r ≡ Names m at n → seen2 s ks is cs os ls r ≡ x → x ≡ ended2 (kept s ks is cs os ls m) n (lines (drop at s))
-  unfolding seen2
-  seen-names m at n q h = sym h ∙ rw q
+  pub seen-next : (e : ℕ) → r ≡ NamesRead.Next e → seenNames s n r ≡ x → x ≡ read (lines (drop e s))
+  unfolding seenNames
+  seen-next e q h = sym h ∙ rw q
 
-pub spot-le : (r : Ended) (m at n z : ℕ) → r ≡ Names m at n → (spotOf r ≤ z) × (lineOf r ≤ spotOf r + 4) → (at ≤ z) × (n ≤ at + 4)
-unfolding spotOf lineOf
-spot-le r m at n z q h = rw q at h
+module _ (s : List ℕ) (r : CountsRead) (x : Answer Counted) where
+  pub counts-refused : (v : Refusal) → r ≡ CountsRead.Refused v → seenCounts s r ≡ x → x ≡ refused (v .number) (v .place)
+  unfolding seenCounts
+  counts-refused v q h = sym h ∙ rw q
 
-module _ (r : Sums) (x : Block3) where
-  pub seen-fault : (v n : ℕ) → r ≡ Fault v n → seen3 r ≡ x → x ≡ refused3 v n
-  unfolding seen3
-  seen-fault v n q h = sym h ∙ rw q
+  pub counts-read : (c : CountsAt) → r ≡ CountsRead.Read c → seenCounts s r ≡ x → x ≡ read (record { head = c .head; rest = lines (drop (c .at) s) })
+  unfolding seenCounts
+  counts-read c q h = sym h ∙ rw q
 
-  pub seen-sound : r ≡ Sound → seen3 r ≡ x → x ≡ fine
-  unfolding seen3
-  seen-sound q h = sym h ∙ rw q
+module _ (s : List ℕ) (r : HeadEnded) (x : Answer HeadBlock) where
+  pub head-refused : (v : Refusal) → r ≡ HeadEnded.Refused v → seenHeadLines s r ≡ x → x ≡ refused (v .number) (v .place)
+  unfolding seenHeadLines
+  head-refused v q h = sym h ∙ rw q
 
--- The first sum line stands behind three lines, the terms and one names line.
-pub line-behind : (h : Head) (lim : Limits) (ps ms : Pieces) (s ks is cs os ls : List ℕ) (m n : ℕ) → block2 h lim start [] 4 ps ≡ ended2
-    (kept s ks is cs os ls m) n ms → n ≡ m + 5
-line-behind h lim ps ms s ks is cs os ls m n e =
-    let t = block2-text h lim (kept s ks is cs os ls m) n ms ps start [] 4 e in
-    let z : m ≡ length (t .more) = sym (kept-length s ks is cs os ls m) ∙ ap length (t .terms) in
-    omega (arith, t .line)
+  pub head-read : (b : HeadAt) → r ≡ HeadEnded.Read b → seenHeadLines s r ≡ x
+      → x ≡ read (record { head = b .head; line = b .line; rest = lines (drop (b .at) s) })
+  unfolding seenHeadLines
+  head-read b q h = sym h ∙ rw q
 
--- Blocks 2 and 3.
-module _ (h : Head) (lim : Limits) (ls : Pieces) where
-  pub lower-refused : (v n : ℕ) → block2 h lim start [] 4 ls ≡ refused2 v n → refused v n ≡ lowerBlocks h lim ls
-  unfolding lowerBlocks
-  lower-refused v n a = rw (lowerBlocks, a)
+module _ (h : Head) (s ks is cs os ls : List ℕ) (r : TermsEnded) (x : Answer TermBlock) where
+  pub terms-refused : (v : Refusal) → r ≡ TermsEnded.Refused v → seenTerms h s ks is cs os ls r ≡ x → x ≡ refused (v .number) (v .place)
+  unfolding seenTerms
+  terms-refused v q e = sym e ∙ rw q
 
-  module _ (ts : List TermLine) (n : ℕ) (ms : Pieces) (a : block2 h lim start [] 4 ls ≡ ended2 ts n ms) where
-    pub lower-fault : (v k : ℕ) → block3 h lim 0 0 n ms ≡ refused3 v k → refused v k ≡ lowerBlocks h lim ls
-    unfolding lowerBlocks lastBlock
-    lower-fault v k b = rw (lowerBlocks, a, lastBlock, b)
+  pub terms-read : (t : TermsAt) → r ≡ TermsEnded.Read t → seenTerms h s ks is cs os ls r ≡ x
+      → x ≡ termsRead h (kept s ks is cs os ls (t .terms)) (t .line) (lines (drop (t .at) s))
+  unfolding seenTerms
+  terms-read t q e = sym e ∙ rw q
 
-    pub lower-read : block3 h lim 0 0 n ms ≡ fine → read (record { head = h; terms = ts; sums = sumsOf n ms }) ≡ lowerBlocks h lim ls
-    unfolding lowerBlocks lastBlock
-    lower-read b = rw (lowerBlocks, a, lastBlock, b)
+module _ (r : SumsEnded) (x : Answer (Unit {0})) where
+  pub sums-refused : (v : Refusal) → r ≡ SumsEnded.Refused v → seenSums r ≡ x → x ≡ refused (v .number) (v .place)
+  unfolding seenSums
+  sums-refused v q h = sym h ∙ rw q
 
--- Lines 1 to 3.
-module _ (lim : Limits) (s : List ℕ) (at e : ℕ) (q : e ≡ at + stop 10 (drop at s)) where
-  pub line3-missing : (h : Head) → length s ≤ e → refused 2 3 ≡ line3 h lim (lines (drop at s))
-  unfolding line3
-  line3-missing h z = rw (cut-end 10 s at e q z)
+  pub sums-sound : r ≡ SumsEnded.Sound → seenSums r ≡ x → x ≡ sumsRead
+  unfolding seenSums
+  sums-sound q h = sym h ∙ rw q
 
-  pub line2-missing : length s ≤ e → refused 2 2 ≡ line2 lim (lines (drop at s))
-  unfolding line2
-  line2-missing z = rw (cut-end 10 s at e q z)
-
-  pub line1-missing : length s ≤ e → refused 2 1 ≡ line1 lim (lines (drop at s))
-  unfolding line1
-  line1-missing z = rw (cut-end 10 s at e q z)
+-- A names line.
+module _ (names : List ℕ) (n : ℕ) (s : List ℕ) (at e : ℕ) (q : e ≡ at + stop 10 (drop at s)) where
+  pub names-missing : length s ≤ e → refused 2 n ≡ namesLine names n (lines (drop at s))
+  unfolding namesLine
+  names-missing z = rw (cut-end 10 s at e q z)
 
   module _ (z : e < length s) where
-    pub line3-wrong : (h : Head) → same (part s at (e - at)) termNames ≡ false → refused 2 3 ≡ line3 h lim (lines (drop at s))
-    unfolding line3
-    line3-wrong h m = rw (cut-more 10 s at e q z, line3, m)
+    pub names-other : same (part s at (e - at)) names ≡ false → refused 2 n ≡ namesLine names n (lines (drop at s))
+    unfolding namesLine
+    names-other m = rw (cut-more 10 s at e q z, namesLine, m)
 
-    pub line3-right : (h : Head) → same (part s at (e - at)) termNames ≡ true → lowerBlocks h lim (lines (drop (e + 1) s)) ≡ line3 h lim (lines (drop at s))
-    unfolding line3
-    line3-right h m = rw (cut-more 10 s at e q z, line3, m)
+    pub names-same : same (part s at (e - at)) names ≡ true → read (lines (drop (e + 1) s)) ≡ namesLine names n (lines (drop at s))
+    unfolding namesLine
+    names-same m = rw (cut-more 10 s at e q z, namesLine, m)
 
-    pub line2-wrong : headForm (fields (part s at (e - at))) ≡ noHead → refused 2 2 ≡ line2 lim (lines (drop at s))
-    unfolding line2 headed
-    line2-wrong m = rw (cut-more 10 s at e q z, line2, m)
+-- The counts.
+module _ (s : List ℕ) (at e : ℕ) (q : e ≡ at + stop 10 (drop at s)) where
+  pub counts-missing : length s ≤ e → refused 2 2 ≡ countsLine (lines (drop at s))
+  unfolding countsLine
+  counts-missing z = rw (cut-end 10 s at e q z)
+
+  module _ (z : e < length s) where
+    pub counts-wrong : headForm (fields (part s at (e - at))) ≡ noHead → refused 2 2 ≡ countsLine (lines (drop at s))
+    unfolding countsLine countsJudged
+    counts-wrong m = rw (cut-more 10 s at e q z, countsLine, m)
 
     module _ (h : Head) (m : headForm (fields (part s at (e - at))) ≡ head h) where
-      pub line2-prime : primeFits (h .p) ≡ false → refused 3 2 ≡ line2 lim (lines (drop at s))
-      unfolding line2 headed
-      line2-prime a = rw (cut-more 10 s at e q z, line2, m, headed, a)
+      pub counts-3 : primeFits (h .p) ≡ false → refused 3 2 ≡ countsLine (lines (drop at s))
+      unfolding countsLine countsJudged
+      counts-3 a = rw (cut-more 10 s at e q z, countsLine, m, countsJudged, a)
 
       module _ (a : primeFits (h .p) ≡ true) where
-        pub line2-counts : countsFit h ≡ false → refused 4 2 ≡ line2 lim (lines (drop at s))
-        unfolding line2 headed
-        line2-counts b = rw (cut-more 10 s at e q z, line2, m, headed, a, b)
+        pub counts-4 : countsFit h ≡ false → refused 4 2 ≡ countsLine (lines (drop at s))
+        unfolding countsLine countsJudged
+        counts-4 b = rw (cut-more 10 s at e q z, countsLine, m, countsJudged, a, b)
 
-        pub line2-right : countsFit h ≡ true → line3 h lim (lines (drop (e + 1) s)) ≡ line2 lim (lines (drop at s))
-        unfolding line2 headed
-        line2-right b = rw (cut-more 10 s at e q z, line2, m, headed, a, b)
+        pub counts-right : countsFit h ≡ true → read (record { head = h; rest = lines (drop (e + 1) s) }) ≡ countsLine (lines (drop at s))
+        unfolding countsLine countsJudged
+        counts-right b = rw (cut-more 10 s at e q z, countsLine, m, countsJudged, a, b)
 
-    pub line1-wrong : same (part s at (e - at)) headNames ≡ false → refused 2 1 ≡ line1 lim (lines (drop at s))
-    unfolding line1
-    line1-wrong m = rw (cut-more 10 s at e q z, line1, m)
+-- Lines 1 to 3.
+module _ (ls : Pieces) where
+  pub line1-refused : (v n : ℕ) → namesLine headNames 1 ls ≡ refused v n → refused v n ≡ headLines ls
+  unfolding headLines _then_
+  line1-refused v n e = rw (headLines, e)
 
-    pub line1-right : same (part s at (e - at)) headNames ≡ true → line2 lim (lines (drop (e + 1) s)) ≡ line1 lim (lines (drop at s))
-    unfolding line1
-    line1-right m = rw (cut-more 10 s at e q z, line1, m)
+  module _ (ms : Pieces) (e : namesLine headNames 1 ls ≡ read ms) where
+    pub line2-refused : (v n : ℕ) → countsLine ms ≡ refused v n → refused v n ≡ headLines ls
+    unfolding headLines _then_
+    line2-refused v n f = rw (headLines, e, f)
+
+    module _ (c : Counted) (f : countsLine ms ≡ read c) where
+      pub line3-refused : (v n : ℕ) → namesLine termNames 3 (c .rest) ≡ refused v n → refused v n ≡ headLines ls
+      unfolding headLines termNamesLine _then_
+      line3-refused v n g = rw (headLines, e, f, termNamesLine, g)
+
+      pub lines-read : (ns : Pieces) → namesLine termNames 3 (c .rest) ≡ read ns
+          → read (record { head = c .head; line = firstTerm; rest = ns }) ≡ headLines ls
+      unfolding headLines termNamesLine _then_
+      lines-read ns g = rw (headLines, e, f, termNamesLine, g)
 
 -- The whole.
 pub package-long : (lim : Limits) (s : List ℕ) → 65536 < length s → refused 1 0 ≡ readWith lim s
-unfolding readWith
-package-long lim s z = rw (readWith, lt-ltb 65536 (length s) z)
+unfolding readWith sized _then_
+package-long lim s z = rw (readWith, sized, lt-ltb 65536 (length s) z)
 
-pub package-lines : (lim : Limits) (s : List ℕ) → length s ≤ 65536 → line1 lim (lines (drop 0 s)) ≡ readWith lim s
-unfolding readWith
-package-lines lim s z = rw (readWith, le-ltb 65536 (length s) z)
+module _ (lim : Limits) (s : List ℕ) (z : length s ≤ 65536) where
+  pub sized-read : sized s ≡ read (lines s)
+  unfolding sized
+  sized-read = rw (sized, le-ltb 65536 (length s) z)
 
-pub inside-names : (s os ls : List ℕ) (r : Ended) (m at n : ℕ) → r ≡ Names m at n → (countOf r ≤ 1024) × Inside s os ls (countOf r) → (m ≤ 1024) × Inside s os ls m
-unfolding countOf
-inside-names s os ls r m at n q h = rw q at h
+  pub package-head : (v n : ℕ) → headLines (lines s) ≡ refused v n → refused v n ≡ readWith lim s
+  unfolding readWith _then_
+  package-head v n e = rw (readWith, sized-read, e)
+
+  module _ (b : HeadBlock) (e : headLines (lines s) ≡ read b) where
+    pub package-terms : (v n : ℕ) → block2 (b .head) lim start [] (b .line) (b .rest) ≡ refused v n → refused v n ≡ readWith lim s
+    unfolding readWith termBlock _then_
+    package-terms v n f = rw (readWith, sized-read, e, termBlock, f)
+
+    module _ (t : TermBlock) (f : block2 (b .head) lim start [] (b .line) (b .rest) ≡ read t) where
+      pub package-sums : (v n : ℕ) → block3 (t .head) lim 0 0 (t .line) (t .rest) ≡ refused v n → refused v n ≡ readWith lim s
+      unfolding readWith termBlock sumBlock _then_
+      package-sums v n g = rw (readWith, sized-read, e, termBlock, f, sumBlock, g)
+
+      pub package-read : block3 (t .head) lim 0 0 (t .line) (t .rest) ≡ sumsRead
+          → read (record { head = t .head; terms = t .terms; sums = sumsOf (t .line) (t .rest) }) ≡ readWith lim s
+      unfolding readWith termBlock sumBlock _then_
+      package-read g = rw (readWith, sized-read, e, termBlock, f, sumBlock, g)
+
+      -- The first sum line stands behind the terms and one names line.
+      pub package-line : (m : ℕ) → length (t .terms) ≡ m → t .line ≡ firstSum m
+      package-line m l =
+          let x = head-lines-text (lines s) b e .line in
+          let y = block2-text (b .head) lim t (b .rest) start [] (b .line) f in
+          let n : length (t .terms) ≡ length (y .more) = ap length (y .terms) in
+          omega (arith, y .line)
 
 -- The slices have room for every term.
 pub room-for : {l n : ℕ} → l ≡ 1024 → n ≤ 1024 → n ≤ l

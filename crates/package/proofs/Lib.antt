@@ -1,4 +1,5 @@
 -- The laws that the readers are proved by, one for each way through a definition:
+pub mod Answers
 pub mod CountsLine
 pub mod TermLines
 pub mod TermJudging
@@ -10,12 +11,14 @@ pub mod FormulaLines
 -- Packages and their texts, the terms of an item, and what a caller of the reader knows:
 pub mod LineBounds
 pub mod CountsTexts
+pub mod HeadTexts
 pub mod TermTexts
 pub mod TermBlockTexts
 pub mod SumTexts
 pub mod SumBlockTexts
 pub mod WrittenBlocks
 pub mod PackageTexts
+pub mod ReadingNumbers
 pub mod FormulaTexts
 pub mod ItemRuns
 pub mod ReadingFacts

@@ -11,6 +11,7 @@ use Rattle.field.specs.Prime.{isPrime}
 use Rattle.package.proofs.CountsLine.{counts-bounds}
 use Rattle.package.specs.Bounds.{coefFits, wordFits}
 use Rattle.package.specs.Head.{primeFits, countsFit}
+use Rattle.package.specs.Names.{termG, sumB}
 use Rattle.package.specs.Sums.{sumItemFits, ofs, sumFits}
 use Rattle.package.specs.Terms.{itemsOf, termFits}
 use Rattle.package.specs.declared.Head.{Head}
@@ -57,7 +58,7 @@ word-letters most letters w l = go (ltb most (length w))
 
 items-most : (h : Head) (k : ℕ) → HeadBounds h → itemsOf h k ≤ 64
 unfolding itemsOf
-items-most h k b = go (eqb k 1)
+items-most h k b = go (eqb k termG)
   where
     go : (t : Bool) → (elim t [ true ↦ h .gens | false ↦ h .basis ]) ≤ 64
     go true = let g = b .gens in omega arith
@@ -96,7 +97,7 @@ pub record SumNumbers (c : ℕ) (l : List ℕ) (o : ℕ) (r : List ℕ) : Type 0
 
 ofs-most : (h : Head) (k : ℕ) → HeadBounds h → ofs h k ≤ 64
 unfolding ofs
-ofs-most h k b = go (eqb k 1)
+ofs-most h k b = go (eqb k sumB)
   where
     go : (t : Bool) → (elim t [ true ↦ h .gens | false ↦ h .basis ]) ≤ 64
     go true = let g = b .gens in omega arith

@@ -15,12 +15,13 @@ use Rattle.package.proofs.TermSlices.{kept-length}
 use Rattle.package.specs.Head.{head}
 use Rattle.package.specs.Held.{termAt, kept, seenAll, Marked}
 use Rattle.package.specs.Items.{slot, slotsOf, firstOf, itemTerms}
+use Rattle.package.specs.Names.{termG, termB}
 use Rattle.package.specs.Package.{Package, readPackage}
 use Rattle.package.specs.Readable.{Readable}
 use Rattle.package.specs.Sums.{sumsOf}
 use Rattle.package.specs.Terms.{TermLine, itemsOf}
 use Rattle.package.specs.declared.Head.{Head}
-use Rattle.package.specs.declared.Reading.the-variants.{Whole}
+use Rattle.package.specs.declared.Reading.{Reading}
 use Rattle.text.specs.Bytes.{within}
 use Rattle.text.specs.Pieces.{lines}
 
@@ -45,7 +46,7 @@ module _ (s ks is cs os ls : List ℕ) (h : Head) (m at n : ℕ) where
   abbrev pub wholePackage : Package
   wholePackage = record { head = h; terms = kept s ks is cs os ls m; sums = sumsOf n (lines (drop at s)) }
 
-  module _ (e : seenAll s ks is cs os ls (Whole h m at n) ≡ readPackage s) where
+  module _ (e : seenAll s ks is cs os ls (Reading.Whole h m at n) ≡ readPackage s) where
     pub whole-readable : Readable wholePackage
     unfolding seenAll
     whole-readable = reads-written wholePackage s (sym e) .0
@@ -54,7 +55,7 @@ module _ (s ks is cs os ls : List ℕ) (h : Head) (m at n : ℕ) where
     whole-bounds = head-bounds h (whole-readable .prime) (whole-readable .counts)
 
     -- The terms of item i of kind k stand from the start that fs marks for it up to the next one.
-    pub whole-item : (fs : List ℕ) → Marked h ks is m fs → (k i : ℕ) → within 1 2 k ≡ true → within 1 (itemsOf h k) i ≡ true
+    pub whole-item : (fs : List ℕ) → Marked h ks is m fs → (k i : ℕ) → within termG termB k ≡ true → within 1 (itemsOf h k) i ≡ true
         → take (getD fs (suc (slot h k i)) 0 - getD fs (slot h k i) 0) (drop (getD fs (slot h k i) 0) (kept s ks is cs os ls m)) ≡ itemTerms k i (kept s ks is cs os ls m)
     whole-item fs marked k i a b =
         let l = slot-most h k i a b in

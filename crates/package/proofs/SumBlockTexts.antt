@@ -1,14 +1,14 @@
--- Block 3 as text: what is judged fine is the writing of sum lines in order, and written sum lines in order are judged fine.
+-- Block 3 as text: what is read is the writing of sum lines in order, and written sum lines in order are read.
 use mathlib.Core.Path.{_≡_, refl, sym, ap, ap₂, subst, _∙_}
 use mathlib.Core.Bool.{Bool, true, false}
 use mathlib.Core.List.{List, [], _∷_}
 use Prim.Native.Nat.{ℕ, suc}
 use native.Mathlib.Omega.{arith}
+use Rattle.package.proofs.Answers.{refused-not-read}
 use Rattle.package.proofs.SumLines.{judge3-2, judge3-5, judge3-6, judge3-0}
 use Rattle.package.proofs.SumTexts.{sum-text}
-use Rattle.package.specs.Examples.{cut}
 use Rattle.package.specs.Readable.{SumsInOrder, noSums, sumThen}
-use Rattle.package.specs.Sums.{SumLine, SumForm, noSum, sum, sumForm, sumFits, sumFollows, SumVerdict, refuse3, accept3, judgeSum, refused3, fine, atEnd, block3, withSum, sumsOf}
+use Rattle.package.specs.Sums.{SumLine, SumForm, noSum, sum, sumForm, sumFits, sumFollows, SumVerdict, refusedBy, accept, judgeSum, sumsRead, atEnd, block3, withSum, sumsOf}
 use Rattle.package.specs.Writing.{sumLines}
 use Rattle.package.specs.declared.Head.{Head}
 use Rattle.package.specs.declared.Limits.{Limits}
@@ -26,16 +26,16 @@ record SumAccepted (h : Head) (lim : Limits) (k′ i′ : ℕ) (line : List ℕ)
   fits : sumFits h lim k i coef left of right ≡ true
   order : sumFollows k′ i′ k i ≡ true
 
-module _ (h : Head) (lim : Limits) (k′ i′ : ℕ) (line : List ℕ) (k i : ℕ) (e : judgeSum h lim k′ i′ line ≡ accept3 k i) where
-  refused-not : (v : ℕ) → refuse3 v ≡ judgeSum h lim k′ i′ line → ⊥
-  refused-not v q = let z : refuse3 v ≡ accept3 k i = q ∙ e in let y : _≡_ {A = ℕ} 0 1 = cc in omega arith
+module _ (h : Head) (lim : Limits) (k′ i′ : ℕ) (line : List ℕ) (k i : ℕ) (e : judgeSum h lim k′ i′ line ≡ accept k i) where
+  refused-not : (v : ℕ) → refusedBy v ≡ judgeSum h lim k′ i′ line → ⊥
+  refused-not v q = let z : refusedBy v ≡ accept k i = q ∙ e in let y : _≡_ {A = ℕ} 0 1 = cc in omega arith
 
   module _ (k₁ i₁ c : ℕ) (l : List ℕ) (o : ℕ) (r : List ℕ) (q : sumForm (fields line) ≡ sum k₁ i₁ c l o r) where
     by-tests : (t u : Bool) → sumFits h lim k₁ i₁ c l o r ≡ t → sumFollows k′ i′ k₁ i₁ ≡ u → SumAccepted h lim k′ i′ line k i
     by-tests false u f g = absurd (refused-not 5 (judge3-5 h lim k′ i′ line k₁ i₁ c l o r q f))
     by-tests true false f g = absurd (refused-not 6 (judge3-6 h lim k′ i′ line k₁ i₁ c l o r q f g))
     by-tests true true f g =
-        let z : accept3 k₁ i₁ ≡ accept3 k i = judge3-0 h lim k′ i′ line k₁ i₁ c l o r q f g ∙ e in
+        let z : accept k₁ i₁ ≡ accept k i = judge3-0 h lim k′ i′ line k₁ i₁ c l o r q f g ∙ e in
         let x₁ : k₁ ≡ k = cc in
         let x₂ : i₁ ≡ i = cc in
         rw (← x₁, ← x₂) (record { coef = c; left = l; of = o; right = r; form = q; fits = f; order = g })
@@ -47,22 +47,22 @@ module _ (h : Head) (lim : Limits) (k′ i′ : ℕ) (line : List ℕ) (k i : �
   accepted-sum : SumAccepted h lim k′ i′ line k i
   accepted-sum = by-form (sumForm (fields line)) refl
 
--- What is judged fine is the text of its sum lines, and they are in order.
+-- What is read is the text of its sum lines, and they are in order.
 pub record Block3Text (h : Head) (lim : Limits) (k′ i′ n : ℕ) (ps : Pieces) : Type 0 where
   pub cut : ps ≡ sumLines (sumsOf n ps)
   pub order : SumsInOrder h lim k′ i′ n (sumsOf n ps)
 
 module _ (h : Head) (lim : Limits) where
-  pub block3-text : (ps : Pieces) (k′ i′ n : ℕ) → block3 h lim k′ i′ n ps ≡ fine → Block3Text h lim k′ i′ n ps
+  pub block3-text : (ps : Pieces) (k′ i′ n : ℕ) → block3 h lim k′ i′ n ps ≡ sumsRead → Block3Text h lim k′ i′ n ps
   unfolding block3 sumsOf sumLines atEnd withSum
   block3-text (final []) k′ i′ n e = record { cut = refl; order = noSums }
-  block3-text (final (x ∷ xs)) k′ i′ n e = absurd (let y : _≡_ {A = ℕ} 0 1 = cc in omega arith)
+  block3-text (final (x ∷ xs)) k′ i′ n e = absurd (refused-not-read 2 n tt e)
   block3-text (piece l ls) k′ i′ n e = by-verdict (judgeSum h lim k′ i′ l) refl (block3-text ls)
     where
-      by-verdict : (v : SumVerdict) → judgeSum h lim k′ i′ l ≡ v → ((k i m : ℕ) → block3 h lim k i m ls ≡ fine → Block3Text h lim k i m ls)
+      by-verdict : (v : SumVerdict) → judgeSum h lim k′ i′ l ≡ v → ((k i m : ℕ) → block3 h lim k i m ls ≡ sumsRead → Block3Text h lim k i m ls)
           → Block3Text h lim k′ i′ n (piece l ls)
-      by-verdict (refuse3 r) j ih = absurd (let z : refused3 r n ≡ fine = rw (block3, j) at e in let y : _≡_ {A = ℕ} 0 1 = cc in omega arith)
-      by-verdict (accept3 k i) j ih =
+      by-verdict (refusedBy r) j ih = absurd (refused-not-read r n tt (rw (block3, j) at e))
+      by-verdict (accept k i) j ih =
           let a = accepted-sum h lim k′ i′ l k i j in
           let t = sum-text (fields l) k i (a .coef) (a .left) (a .of) (a .right) (a .form) in
           let z = ih k i (suc n) (rw (block3, j) at e) in

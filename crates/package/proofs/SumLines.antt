@@ -4,16 +4,15 @@ use mathlib.Core.Bool.{Bool, true, false}
 use mathlib.Core.List.{List}
 use Prim.Native.Nat.{ℕ, suc, _+_, _≤_, _<_}
 use lib.ListN.{length, drop}
+use Rattle.package.specs.Answer.{Answer, refused}
 use Rattle.package.specs.Bounds.{coefFits, wordFits}
-use Rattle.package.specs.Held.{seenSum, SumInside, seenSumJudged, JudgedInside}
+use Rattle.package.specs.Held.{GotSum, noneSum, someSum, seenSum, SumInside, seenSumJudged, JudgedInside}
 use Rattle.package.specs.Names.{sumKinds}
-use Rattle.package.specs.Sums.{noSum, sum, sumForm, sumItemFits, ofs, sumFits, sumFollows, refuse3, accept3, judged3, judgeSum, Block3, refused3, block3, GotSum, noneSum, someSum}
+use Rattle.package.specs.Sums.{noSum, sum, sumForm, sumItemFits, ofs, sumFits, sumFollows, refusedBy, accept, judged3, judgeSum, block3}
 use Rattle.package.specs.declared.Head.{Head}
 use Rattle.package.specs.declared.Limits.{Limits}
 use Rattle.package.specs.declared.SumJudged.{SumJudged}
-use Rattle.package.specs.declared.SumJudged.the-variants.{Reject, Admit}
 use Rattle.package.specs.declared.SumRead.{SumRead}
-use Rattle.package.specs.declared.SumRead.the-variants.{Shapeless, Sum}
 use Rattle.text.specs.Bytes.{within}
 use Rattle.text.specs.Field.{none, some, numThen, noneWord, someWord, wordThen, wordLast, rank}
 use Rattle.text.specs.Number.{number}
@@ -85,49 +84,49 @@ module _ (h : Head) (lim : Limits) (k i c : ℕ) (l : List ℕ) (o : ℕ) (r : L
 
 -- What an answer says of the line that was read.
 module _ (s : List ℕ) (r : SumRead) (x : GotSum) where
-  pub seen-shapeless : r ≡ Shapeless → seenSum s r ≡ x → x ≡ noneSum
+  pub seen-no-sum : r ≡ SumRead.Misshapen → seenSum s r ≡ x → x ≡ noneSum
   unfolding seenSum
-  seen-shapeless q h = sym h ∙ rw q
+  seen-no-sum q h = sym h ∙ rw q
 
-  pub seen-sum : (k i c a m o b n e : ℕ) → r ≡ Sum k i c a m o b n e → seenSum s r ≡ x → x ≡ someSum k i c (part s a m) o (part s b n) (lines (drop e s))
+  pub seen-sum : (k i c a m o b n e : ℕ) → r ≡ SumRead.Sum k i c a m o b n e → seenSum s r ≡ x → x ≡ someSum k i c (part s a m) o (part s b n) (lines (drop e s))
   unfolding seenSum
   seen-sum k i c a m o b n e q h = sym h ∙ rw q
 
-pub sum-inside : (s : List ℕ) (at : ℕ) (r : SumRead) (k i c a m o b n e : ℕ) → r ≡ Sum k i c a m o b n e → SumInside s at r → (a + m ≤ length s) ×
+pub sum-inside : (s : List ℕ) (at : ℕ) (r : SumRead) (k i c a m o b n e : ℕ) → r ≡ SumRead.Sum k i c a m o b n e → SumInside s at r → (a + m ≤ length s) ×
     (b + n ≤ length s) × (at < e) × (e ≤ length s)
 unfolding SumInside
 sum-inside s at r k i c a m o b n e q h = rw q at h
 
 -- Refusals 2, 5, 6 and a line in order.
 module _ (h : Head) (lim : Limits) (k′ i′ : ℕ) (line : List ℕ) where
-  pub judge3-2 : sumForm (fields line) ≡ noSum → refuse3 2 ≡ judgeSum h lim k′ i′ line
+  pub judge3-2 : sumForm (fields line) ≡ noSum → refusedBy 2 ≡ judgeSum h lim k′ i′ line
   unfolding judgeSum judged3
   judge3-2 a = rw (judgeSum, a)
 
   module _ (k i c : ℕ) (l : List ℕ) (o : ℕ) (r : List ℕ) (a : sumForm (fields line) ≡ sum k i c l o r) where
-    pub judge3-5 : sumFits h lim k i c l o r ≡ false → refuse3 5 ≡ judgeSum h lim k′ i′ line
+    pub judge3-5 : sumFits h lim k i c l o r ≡ false → refusedBy 5 ≡ judgeSum h lim k′ i′ line
     unfolding judgeSum judged3
     judge3-5 b = rw (judgeSum, a, judged3, b)
 
     module _ (b : sumFits h lim k i c l o r ≡ true) where
-      pub judge3-6 : sumFollows k′ i′ k i ≡ false → refuse3 6 ≡ judgeSum h lim k′ i′ line
+      pub judge3-6 : sumFollows k′ i′ k i ≡ false → refusedBy 6 ≡ judgeSum h lim k′ i′ line
       unfolding judgeSum judged3
       judge3-6 d = rw (judgeSum, a, judged3, b, d)
 
-      pub judge3-0 : sumFollows k′ i′ k i ≡ true → accept3 k i ≡ judgeSum h lim k′ i′ line
+      pub judge3-0 : sumFollows k′ i′ k i ≡ true → accept k i ≡ judgeSum h lim k′ i′ line
       unfolding judgeSum judged3
       judge3-0 d = rw (judgeSum, a, judged3, b, d)
 
 -- What an answer says of the line that was judged.
-module _ (h : Head) (lim : Limits) (s : List ℕ) (n : ℕ) (r : SumJudged) (x : Block3) where
-  pub seen-reject : (v : ℕ) → r ≡ Reject v → seenSumJudged h lim s n r ≡ x → refused3 v n ≡ x
+module _ (h : Head) (lim : Limits) (s : List ℕ) (n : ℕ) (r : SumJudged) (x : Answer (Unit {0})) where
+  pub seen-sum-refused : (v : ℕ) → r ≡ SumJudged.Refused v → seenSumJudged h lim s n r ≡ x → refused v n ≡ x
   unfolding seenSumJudged
-  seen-reject v q h = rw q at h
+  seen-sum-refused v q h = rw q at h
 
-  pub seen-admit : (k i e : ℕ) → r ≡ Admit k i e → seenSumJudged h lim s n r ≡ x → block3 h lim k i (suc n) (lines (drop e s)) ≡ x
+  pub seen-sum-accepted : (k i e : ℕ) → r ≡ SumJudged.Accepted k i e → seenSumJudged h lim s n r ≡ x → block3 h lim k i (suc n) (lines (drop e s)) ≡ x
   unfolding seenSumJudged
-  seen-admit k i e q h = rw q at h
+  seen-sum-accepted k i e q h = rw q at h
 
-pub judged-inside : (s : List ℕ) (at : ℕ) (r : SumJudged) (k i e : ℕ) → r ≡ Admit k i e → JudgedInside s at r → (at < e) × (e ≤ length s)
+pub judged-inside : (s : List ℕ) (at : ℕ) (r : SumJudged) (k i e : ℕ) → r ≡ SumJudged.Accepted k i e → JudgedInside s at r → (at < e) × (e ≤ length s)
 unfolding JudgedInside
 judged-inside s at r k i e q h = rw q at h

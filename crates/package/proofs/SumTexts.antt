@@ -6,7 +6,7 @@ use Prim.Native.Nat.{ℕ, zero, suc, _≤_, _<_}
 use native.Mathlib.Omega.{arith}
 use Rattle.package.proofs.SumLines.{sum-kind, sum-item, sum-coef, sum-left, sum-of, sum-right, sum-whole}
 use Rattle.package.specs.Examples.{cut}
-use Rattle.package.specs.Names.{sumKinds}
+use Rattle.package.specs.Names.{sumKinds, sumB, sumO}
 use Rattle.package.specs.Sums.{noSum, sum, sumForm}
 use Rattle.package.specs.Writing.{sumFields}
 use Rattle.text.proofs.Bytewise.{within-bounds}
@@ -22,7 +22,7 @@ use Rattle.text.specs.declared.Num.the-variants.{Value}
 -- The text of a sum line.
 pub record SumText (ps : Pieces) (k i c : ℕ) (l : List ℕ) (o : ℕ) (r : List ℕ) : Type 0 where
   pub cut : ps ≡ sumFields k i c l o r
-  pub ranked : within 1 3 k ≡ true
+  pub ranked : within sumB sumO k ≡ true
   pub item : i < 100000
   pub coef : c < 100000
   pub lefts : allWithin 97 122 l ≡ true
@@ -94,7 +94,7 @@ module _ (ps : Pieces) (k i c : ℕ) (l : List ℕ) (o : ℕ) (r : List ℕ) (h 
   sum-text = by-kind (numThen (rank sumKinds) ps) refl
 
 -- The kinds of block 3.
-pub known-kind : (k : ℕ) → (1 ≤ k) × (k ≤ 3) → rank sumKinds (writeKind sumKinds k) ≡ Value k
+pub known-kind : (k : ℕ) → (sumB ≤ k) × (k ≤ sumO) → rank sumKinds (writeKind sumKinds k) ≡ Value k
 unfolding rank rankFrom writeKind
 known-kind zero b = absurd (omega arith)
 known-kind (suc zero) b = refl
@@ -102,7 +102,7 @@ known-kind (suc (suc zero)) b = refl
 known-kind (suc (suc (suc zero))) b = refl
 known-kind (suc (suc (suc (suc k)))) b = absurd (omega arith)
 
-pub kind-clear : (b k : ℕ) → b < 48 → (1 ≤ k) × (k ≤ 3) → Without b (writeKind sumKinds k)
+pub kind-clear : (b k : ℕ) → b < 48 → (sumB ≤ k) × (k ≤ sumO) → Without b (writeKind sumKinds k)
 unfolding writeKind
 kind-clear b zero h r = absurd (omega arith)
 kind-clear b (suc zero) h r = apart {x = 66} (λ (e : 66 ≡ b). omega arith) empty
@@ -111,11 +111,11 @@ kind-clear b (suc (suc (suc zero))) h r = apart {x = 79} (λ (e : 79 ≡ b). ome
 kind-clear b (suc (suc (suc (suc k)))) h r = absurd (omega arith)
 
 -- A written sum line.
-module _ (k i c : ℕ) (l : List ℕ) (o : ℕ) (r : List ℕ) (x : within 1 3 k ≡ true) (y : allWithin 97 122 l ≡ true) (z : allWithin 97 122 r ≡ true) where
+module _ (k i c : ℕ) (l : List ℕ) (o : ℕ) (r : List ℕ) (x : within sumB sumO k ≡ true) (y : allWithin 97 122 l ≡ true) (z : allWithin 97 122 r ≡ true) where
   fields-clear : (b : ℕ) → b < 45 → Clear b (sumFields k i c l o r)
   unfolding sumFields
   fields-clear b h =
-      clears (kind-clear b k (omega arith) (within-bounds 1 3 k x))
+      clears (kind-clear b k (omega arith) (within-bounds sumB sumO k x))
       (clears (number-clear b i (omega arith))
       (clears (number-clear b c (omega arith)) (clears (word-clear b l h y) (clears (number-clear b o (omega arith)) (clear (word-clear b r h z))))))
 
@@ -126,5 +126,5 @@ module _ (k i c : ℕ) (l : List ℕ) (o : ℕ) (r : List ℕ) (x : within 1 3 k
   unfolding sumFields
   text-sum a b d =
       ap sumForm (fields-written (fields-clear 32 (omega arith)))
-      ∙ sym (sum-whole (sumFields k i c l o r) k _ (starts-kind sumKinds k _ (known-kind k (within-bounds 1 3 k x))) i _ (starts-number i _ a) c _
+      ∙ sym (sum-whole (sumFields k i c l o r) k _ (starts-kind sumKinds k _ (known-kind k (within-bounds sumB sumO k x))) i _ (starts-number i _ a) c _
       (starts-number c _ b) l _ (starts-word l _ y) o _ (starts-number o _ d) r (ends-word r z))

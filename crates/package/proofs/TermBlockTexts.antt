@@ -5,12 +5,13 @@ use mathlib.Core.List.{List, [], _∷_, _++_, append-assoc, append-nil}
 use Prim.Native.Nat.{ℕ, suc, _+_}
 use native.Mathlib.Omega.{arith}
 use lib.ListN.{length, length-append}
+use Rattle.package.proofs.Answers.{refused-not-read, read-injective}
 use Rattle.package.proofs.TermJudging.{judge-5, judge-6, by-room, judge-2}
 use Rattle.package.proofs.TermTexts.{term-text}
-use Rattle.package.specs.Examples.{cut}
+use Rattle.package.specs.Answer.{read}
 use Rattle.package.specs.Names.{sumNames}
 use Rattle.package.specs.Readable.{under, TermInOrder, TermsInOrder, noTerms, termThen}
-use Rattle.package.specs.Terms.{TermLine, TermForm, noTerm, term, termForm, termFits, LineAbove, follows, hasRoom, TermVerdict, refuse, accept, judged, judgeTerm, refused2, ended2, block2}
+use Rattle.package.specs.Terms.{TermLine, TermForm, noTerm, term, termForm, termFits, LineAbove, follows, hasRoom, TermVerdict, refusedBy, accept, judged, judgeTerm, TermBlock, block2}
 use Rattle.package.specs.Writing.{termFields, termLines}
 use Rattle.package.specs.declared.Head.{Head}
 use Rattle.package.specs.declared.Limits.{Limits}
@@ -25,8 +26,8 @@ module _ (h : Head) (lim : Limits) (a : LineAbove) (n : ℕ) (l : List ℕ) (k i
   abbrev Accepted : Type 0
   Accepted = (l ≡ writeFields (termFields k i c w)) × TermInOrder h lim a n (record { kind = k; item = i; coef = c; word = w })
 
-  refused-not : (v : ℕ) → refuse v ≡ judgeTerm h lim a n l → ⊥
-  refused-not v q = let z : refuse v ≡ accept k i c w = q ∙ e in let y : _≡_ {A = ℕ} 0 1 = cc in omega arith
+  refused-not : (v : ℕ) → refusedBy v ≡ judgeTerm h lim a n l → ⊥
+  refused-not v q = let z : refusedBy v ≡ accept k i c w = q ∙ e in let y : _≡_ {A = ℕ} 0 1 = cc in omega arith
 
   module _ (k′ i′ c′ : ℕ) (w′ : List ℕ) (q : termForm (fields l) ≡ term k′ i′ c′ w′) where
     the-verdict : judged h lim a n (term k′ i′ c′ w′) ≡ judgeTerm h lim a n l
@@ -55,38 +56,37 @@ module _ (h : Head) (lim : Limits) (a : LineAbove) (n : ℕ) (l : List ℕ) (k i
   accepted = by-form (termForm (fields l)) refl
 
 -- The lines of block 2, read behind the terms ts₀: they are the text of more terms in order, and the names line of block 3.
-pub record Block2Text (h : Head) (lim : Limits) (a : LineAbove) (ts₀ : List TermLine) (n : ℕ) (ps : Pieces) (ts : List TermLine) (n′ : ℕ) (ms : Pieces) : Type 0 where
+pub record Block2Text (h : Head) (lim : Limits) (a : LineAbove) (ts₀ : List TermLine) (n : ℕ) (ps : Pieces) (b : TermBlock) : Type 0 where
   pub more : List TermLine
-  pub terms : ts ≡ ts₀ ++ more
-  pub line : n′ ≡ suc (n + length more)
-  pub cut : ps ≡ termLines more (piece sumNames ms)
+  pub head : b .head ≡ h
+  pub terms : b .terms ≡ ts₀ ++ more
+  pub line : b .line ≡ suc (n + length more)
+  pub cut : ps ≡ termLines more (piece sumNames (b .rest))
   pub order : TermsInOrder h lim a (length ts₀) more
 
-module _ (h : Head) (lim : Limits) (ts : List TermLine) (n′ : ℕ) (ms : Pieces) where
-  pub block2-text : (ps : Pieces) (a : LineAbove) (ts₀ : List TermLine) (n : ℕ) → block2 h lim a ts₀ n ps ≡ ended2 ts n′ ms → Block2Text h lim a ts₀ n ps ts n′ ms
+module _ (h : Head) (lim : Limits) (b : TermBlock) where
+  pub block2-text : (ps : Pieces) (a : LineAbove) (ts₀ : List TermLine) (n : ℕ) → block2 h lim a ts₀ n ps ≡ read b → Block2Text h lim a ts₀ n ps b
   unfolding block2 termLines
-  block2-text (final x) a ts₀ n e = absurd (let y : _≡_ {A = ℕ} 0 1 = cc in omega arith)
+  block2-text (final x) a ts₀ n e = absurd (refused-not-read 2 n b e)
   block2-text (piece l ls) a ts₀ n e = by-names (same l sumNames) refl (block2-text ls)
     where
-      by-names : (t : Bool) → same l sumNames ≡ t → ((a′ : LineAbove) (ts′ : List TermLine) (k : ℕ) → block2 h lim a′ ts′ k ls ≡ ended2 ts n′ ms
-          → Block2Text h lim a′ ts′ k ls ts n′ ms)
-          → Block2Text h lim a ts₀ n (piece l ls) ts n′ ms
+      by-names : (t : Bool) → same l sumNames ≡ t → ((a′ : LineAbove) (ts′ : List TermLine) (k : ℕ) → block2 h lim a′ ts′ k ls ≡ read b → Block2Text h lim a′ ts′ k ls b)
+          → Block2Text h lim a ts₀ n (piece l ls) b
       by-names true q ih =
-          let z : ended2 ts₀ (suc n) ls ≡ ended2 ts n′ ms = rw (block2, q) at e in
-          let x : ts₀ ≡ ts = cc in
-          let y : suc n ≡ n′ = cc in
-          let w : ls ≡ ms = cc in
+          let z = read-injective (record { head = h; terms = ts₀; line = suc n; rest = ls }) b (rw (block2, q) at e) in
+          let y : suc n ≡ b .line = ap (λ (x : TermBlock). x .line) z in
           record {
             more = [];
-            terms = sym x ∙ sym (append-nil ts₀);
+            head = sym (ap (λ (x : TermBlock). x .head) z);
+            terms = sym (ap (λ (x : TermBlock). x .terms) z) ∙ sym (append-nil ts₀);
             line = omega arith;
-            cut = ap₂ piece (same-eq l sumNames q) w;
+            cut = ap₂ piece (same-eq l sumNames q) (ap (λ (x : TermBlock). x .rest) z);
             order = noTerms;
           }
       by-names false q ih = by-verdict (judgeTerm h lim a (length ts₀) l) refl
         where
-          by-verdict : (v : TermVerdict) → judgeTerm h lim a (length ts₀) l ≡ v → Block2Text h lim a ts₀ n (piece l ls) ts n′ ms
-          by-verdict (refuse r) j = absurd (let z : refused2 r n ≡ ended2 ts n′ ms = rw (block2, q, j) at e in let y : _≡_ {A = ℕ} 0 1 = cc in omega arith)
+          by-verdict : (v : TermVerdict) → judgeTerm h lim a (length ts₀) l ≡ v → Block2Text h lim a ts₀ n (piece l ls) b
+          by-verdict (refusedBy r) j = absurd (refused-not-read r n b (rw (block2, q, j) at e))
           by-verdict (accept k i c w) j =
               let t : TermLine = record { kind = k; item = i; coef = c; word = w } in
               let z = ih (under a t) (ts₀ ++ (t ∷ [])) (suc n) (rw (block2, q, j) at e) in
@@ -94,6 +94,7 @@ module _ (h : Head) (lim : Limits) (ts : List TermLine) (n′ : ℕ) (ms : Piece
               let d : length (ts₀ ++ (t ∷ [])) ≡ suc (length ts₀) = rw length-append (omega arith) in
               record {
                 more = t ∷ z .more;
+                head = z .head;
                 terms = z .terms ∙ append-assoc ts₀ (t ∷ []) (z .more);
                 line = omega (arith, z .line);
                 cut = ap₂ piece (f .0) (z .cut);

@@ -9,36 +9,35 @@ use lib.ListN.{take, drop}
 use lib.Seq.{drop-drop}
 use borrow.Author.Tests.{lt-ltb, le-ltb, ltb-true, ltb-false}
 use Rattle.package.specs.Held.{seenJudged, reachJudged, aboveOf}
-use Rattle.package.specs.Terms.{TermForm, noTerm, term, termForm, termFits, LineAbove, follows, counted, hasRoom, TermVerdict, refuse, accept, judged, judgeTerm}
+use Rattle.package.specs.Terms.{TermForm, noTerm, term, termForm, termFits, LineAbove, follows, counted, hasRoom, TermVerdict, refusedBy, accept, judged, judgeTerm}
 use Rattle.package.specs.declared.Head.{Head}
 use Rattle.package.specs.declared.Last.{Last}
 use Rattle.package.specs.declared.Limits.{Limits}
 use Rattle.package.specs.declared.TermJudged.{TermJudged}
-use Rattle.package.specs.declared.TermJudged.the-variants.{Refuse, Accept}
 use Rattle.lists.proofs.Parts.{part-part}
 use Rattle.text.specs.Pieces.{pieces, fields, part}
 
 -- A line that has its shape.
 module _ (h : Head) (lim : Limits) (a : LineAbove) (n k i c : ℕ) (w : List ℕ) where
-  pub judge-5 : termFits h lim k i c w ≡ false → refuse 5 ≡ judged h lim a n (term k i c w)
+  pub judge-5 : termFits h lim k i c w ≡ false → refusedBy 5 ≡ judged h lim a n (term k i c w)
   unfolding judged
   judge-5 p = rw (judged, p)
 
   module _ (p : termFits h lim k i c w ≡ true) where
-    pub judge-6 : follows a k i w ≡ false → refuse 6 ≡ judged h lim a n (term k i c w)
+    pub judge-6 : follows a k i w ≡ false → refusedBy 6 ≡ judged h lim a n (term k i c w)
     unfolding judged
     judge-6 q = rw (judged, p, q)
 
     module _ (q : follows a k i w ≡ true) where
-      pub by-room : (t : Bool) → hasRoom lim a n k i ≡ t → _≡_ {A = TermVerdict} (elim t [ false ↦ refuse 7 | true ↦ accept k i c w ]) (judged h lim a n (term k i c w))
+      pub by-room : (t : Bool) → hasRoom lim a n k i ≡ t → _≡_ {A = TermVerdict} (elim t [ false ↦ refusedBy 7 | true ↦ accept k i c w ]) (judged h lim a n (term k i c w))
       unfolding judged
       by-room t r = rw (judged, p, q, r)
 
-      pub judge-7-item : (lim .terms) < counted a k i → refuse 7 ≡ judged h lim a n (term k i c w)
+      pub judge-7-item : (lim .terms) < counted a k i → refusedBy 7 ≡ judged h lim a n (term k i c w)
       unfolding hasRoom
       judge-7-item r = by-room false (rw (hasRoom, lt-ltb (lim .terms) (counted a k i) r))
 
-      pub judge-7-total : counted a k i ≤ (lim .terms) → 1024 ≤ n → refuse 7 ≡ judged h lim a n (term k i c w)
+      pub judge-7-total : counted a k i ≤ (lim .terms) → 1024 ≤ n → refusedBy 7 ≡ judged h lim a n (term k i c w)
       unfolding hasRoom
       judge-7-total r z = by-room false (rw (hasRoom, le-ltb (lim .terms) (counted a k i) r, le-ltb n 1024 z))
 
@@ -46,13 +45,13 @@ module _ (h : Head) (lim : Limits) (a : LineAbove) (n k i c : ℕ) (w : List ℕ
       unfolding hasRoom
       judge-0 r z = by-room true (rw (hasRoom, le-ltb (lim .terms) (counted a k i) r, lt-ltb n 1024 z))
 
--- The number of terms of an item does not look at the word.
+-- The number of terms of an item does not depend on the word.
 pub counted-word : (s : List ℕ) (last : Last) (k i : ℕ) → counted (aboveOf [] last) k i ≡ counted (aboveOf s last) k i
 unfolding counted
 counted-word s last k i = refl
 
 -- A line from its bytes.
-pub judge-2 : (h : Head) (lim : Limits) (a : LineAbove) (n : ℕ) (l : List ℕ) → termForm (fields l) ≡ noTerm → refuse 2 ≡ judgeTerm h lim a n l
+pub judge-2 : (h : Head) (lim : Limits) (a : LineAbove) (n : ℕ) (l : List ℕ) → termForm (fields l) ≡ noTerm → refusedBy 2 ≡ judgeTerm h lim a n l
 unfolding judgeTerm judged
 judge-2 h lim a n l q = rw (judgeTerm, q)
 
@@ -66,15 +65,15 @@ judge-read h lim ab t s at m k i c a n b q =
 
 -- What an answer says of the line.
 module _ (s : List ℕ) (r : TermJudged) (x : TermVerdict) where
-  pub seen-refuse : (v : ℕ) → r ≡ Refuse v → seenJudged s r ≡ x → x ≡ refuse v
+  pub seen-refused : (v : ℕ) → r ≡ TermJudged.Refused v → seenJudged s r ≡ x → x ≡ refusedBy v
   unfolding seenJudged
-  seen-refuse v q h = sym h ∙ rw q
+  seen-refused v q h = sym h ∙ rw q
 
-  pub seen-accept : (k i c a n : ℕ) → r ≡ Accept k i c a n → seenJudged s r ≡ x → x ≡ accept k i c (part s a n)
+  pub seen-accepted : (k i c a n : ℕ) → r ≡ TermJudged.Accepted k i c a n → seenJudged s r ≡ x → x ≡ accept k i c (part s a n)
   unfolding seenJudged
-  seen-accept k i c a n q h = sym h ∙ rw q
+  seen-accepted k i c a n q h = sym h ∙ rw q
 
-pub reach-judged : (r : TermJudged) (k i c a n m : ℕ) → r ≡ Accept k i c a n → reachJudged r ≤ m → a + n ≤ m
+pub reach-judged : (r : TermJudged) (k i c a n m : ℕ) → r ≡ TermJudged.Accepted k i c a n → reachJudged r ≤ m → a + n ≤ m
 unfolding reachJudged
 reach-judged r k i c a n m q h = rw q at h
 
@@ -89,7 +88,7 @@ room lim a n k i = go (ltb (lim .terms) (counted a k i)) refl
     go false e h = (ltb-true n 1024 h, ltb-false (lim .terms) (counted a k i) e)
 
 module _ (lim : Limits) (a : LineAbove) (n k i c k′ i′ c′ : ℕ) (w w′ : List ℕ) where
-  last-test : (t : Bool) → hasRoom lim a n k′ i′ ≡ t → _≡_ {A = TermVerdict} (elim t [ false ↦ refuse 7 | true ↦ accept k′ i′ c′ w′ ])
+  last-test : (t : Bool) → hasRoom lim a n k′ i′ ≡ t → _≡_ {A = TermVerdict} (elim t [ false ↦ refusedBy 7 | true ↦ accept k′ i′ c′ w′ ])
       (accept k i c w) → (n < 1024) × (counted a k i ≤ (lim .terms))
   last-test true e h =
       let p : k′ ≡ k = cc in
@@ -105,11 +104,11 @@ accept-room h lim a n noTerm k i c w e = absurd (let y : _≡_ {A = ℕ} 0 1 = c
 accept-room h lim a n (term k′ i′ c′ w′) k i c w e = go (termFits h lim k′ i′ c′ w′) (follows a k′ i′ w′) e
   where
     go : (t u : Bool) → _≡_ {A = TermVerdict} (elim t [
-      | false ↦ refuse 5
+      | false ↦ refusedBy 5
       | true ↦ elim u [
-        | false ↦ refuse 6
+        | false ↦ refusedBy 6
         | true ↦ elim
-            (hasRoom lim a n k′ i′) [ false ↦ refuse 7 | true ↦ accept k′ i′ c′ w′ ]
+            (hasRoom lim a n k′ i′) [ false ↦ refusedBy 7 | true ↦ accept k′ i′ c′ w′ ]
       ]
     ]) (accept k i c w)
         → (n < 1024) × (counted a k i ≤ (lim .terms))

@@ -13,7 +13,6 @@ use Rattle.package.specs.Terms.{TermForm, noTerm, term, termForm, itemsO
 use Rattle.package.specs.declared.Head.{Head}
 use Rattle.package.specs.declared.Limits.{Limits}
 use Rattle.package.specs.declared.TermRead.{TermRead}
-use Rattle.package.specs.declared.TermRead.the-variants.{Misshapen, Shaped}
 use Rattle.text.specs.Bytes.{within}
 use Rattle.text.specs.Field.{none, some, numThen, wordLast, rank}
 use Rattle.text.specs.Number.{number}
@@ -65,15 +64,15 @@ module _ (h : Head) (lim : Limits) (k i c : ℕ) (w : List ℕ) (m : ℕ) (t : B
 
 -- What an answer says of the line.
 module _ (l : List ℕ) (r : TermRead) (x : TermForm) where
-  pub seen-misshapen : r ≡ Misshapen → seenTerm l r ≡ x → x ≡ noTerm
+  pub seen-no-term : r ≡ TermRead.Misshapen → seenTerm l r ≡ x → x ≡ noTerm
   unfolding seenTerm
-  seen-misshapen q h = sym h ∙ rw q
+  seen-no-term q h = sym h ∙ rw q
 
-  pub seen-term : (k i c a n : ℕ) → r ≡ Shaped k i c a n → seenTerm l r ≡ x → x ≡ term k i c (part l a n)
+  pub seen-term : (k i c a n : ℕ) → r ≡ TermRead.Shaped k i c a n → seenTerm l r ≡ x → x ≡ term k i c (part l a n)
   unfolding seenTerm
   seen-term k i c a n q h = sym h ∙ rw q
 
-pub reach-part : (s : List ℕ) (at e : ℕ) (r : TermRead) (k i c a n : ℕ) → at ≤ e → e ≤ length s → r ≡ Shaped k i c a n → reach r ≤ length
+pub reach-part : (s : List ℕ) (at e : ℕ) (r : TermRead) (k i c a n : ℕ) → at ≤ e → e ≤ length s → r ≡ TermRead.Shaped k i c a n → reach r ≤ length
     (take (e - at) (drop at s)) → a + n ≤ e - at
 unfolding reach
 reach-part s at e r k i c a n h z q b =

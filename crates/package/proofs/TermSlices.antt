@@ -33,9 +33,6 @@ module _ (s ks is cs os ls : List ℕ) where
         rw (kept-below n (omega arith), getD-set-same ks n k 0 a, getD-set-same is n i 0 b, getD-set-same cs n c 0 d, getD-set-same os n o 0 e, getD-set-same ls n l 0 f)
 
 -- Every word lies in the bytes.
-pub inside-none : (s os ls : List ℕ) → Inside s os ls 0
-inside-none s os ls i h = absurd (omega arith)
-
 pub inside-store : (s os ls os′ ls′ : List ℕ) (n o l : ℕ) → os′ ≡ set os n o → ls′ ≡ set ls n l → length os ≡ 1024 → length ls ≡ 1024 → n < 1024
     → o + l ≤ length s → Inside s os ls n → Inside s os′ ls′ (n + 1)
 inside-store s os ls os′ ls′ n o l a b x y f r h i z = go (ℕ-discrete i n)

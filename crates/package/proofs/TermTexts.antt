@@ -6,7 +6,7 @@ use Prim.Native.Nat.{ℕ, zero, suc, _≤_, _<_}
 use native.Mathlib.Omega.{arith}
 use Rattle.package.proofs.TermLines.{form-kind, form-item, form-coef, form-word, form-term}
 use Rattle.package.specs.Examples.{cut}
-use Rattle.package.specs.Names.{sumNames, termKinds}
+use Rattle.package.specs.Names.{sumNames, termKinds, termG, termB}
 use Rattle.package.specs.Terms.{noTerm, term, termForm}
 use Rattle.package.specs.Writing.{termFields}
 use Rattle.text.proofs.Bytewise.{within-bounds}
@@ -24,7 +24,7 @@ use Rattle.text.specs.declared.Num.the-variants.{Value}
 -- The text of a term line.
 pub record TermText (ps : Pieces) (k i c : ℕ) (w : List ℕ) : Type 0 where
   pub cut : ps ≡ termFields k i c w
-  pub ranked : within 1 2 k ≡ true
+  pub ranked : within termG termB k ≡ true
   pub item : i < 100000
   pub coef : c < 100000
   pub letters : allWithin 97 122 w ≡ true
@@ -74,14 +74,14 @@ module _ (ps : Pieces) (k i c : ℕ) (w : List ℕ) (h : termForm ps ≡ term k 
   term-text = by-kind (numThen (rank termKinds) ps) refl
 
 -- The kinds of block 2.
-term-kind : (k : ℕ) → (1 ≤ k) × (k ≤ 2) → rank termKinds (writeKind termKinds k) ≡ Value k
+term-kind : (k : ℕ) → (termG ≤ k) × (k ≤ termB) → rank termKinds (writeKind termKinds k) ≡ Value k
 unfolding rank rankFrom writeKind
 term-kind zero b = absurd (omega arith)
 term-kind (suc zero) b = refl
 term-kind (suc (suc zero)) b = refl
 term-kind (suc (suc (suc k))) b = absurd (omega arith)
 
-term-kind-clear : (b k : ℕ) → b < 48 → (1 ≤ k) × (k ≤ 2) → Without b (writeKind termKinds k)
+term-kind-clear : (b k : ℕ) → b < 48 → (termG ≤ k) × (k ≤ termB) → Without b (writeKind termKinds k)
 unfolding writeKind
 term-kind-clear b zero h r = absurd (omega arith)
 term-kind-clear b (suc zero) h r = apart {x = 71} (λ (e : 71 ≡ b). omega arith) empty
@@ -89,11 +89,11 @@ term-kind-clear b (suc (suc zero)) h r = apart {x = 66} (λ (e : 66 ≡ b). omeg
 term-kind-clear b (suc (suc (suc k))) h r = absurd (omega arith)
 
 -- A written term line.
-module _ (k i c : ℕ) (w : List ℕ) (r : within 1 2 k ≡ true) (l : allWithin 97 122 w ≡ true) where
+module _ (k i c : ℕ) (w : List ℕ) (r : within termG termB k ≡ true) (l : allWithin 97 122 w ≡ true) where
   term-clear : (b : ℕ) → b < 45 → Clear b (termFields k i c w)
   unfolding termFields
   term-clear b h =
-      clears (term-kind-clear b k (omega arith) (within-bounds 1 2 k r))
+      clears (term-kind-clear b k (omega arith) (within-bounds termG termB k r))
       (clears (number-clear b i (omega arith)) (clears (number-clear b c (omega arith)) (clear (word-clear b w h l))))
 
   pub term-fields : fields (writeFields (termFields k i c w)) ≡ termFields k i c w
@@ -106,7 +106,7 @@ module _ (k i c : ℕ) (w : List ℕ) (r : within 1 2 k ≡ true) (l : allWithin
   unfolding termFields
   text-term a b =
       ap termForm term-fields
-      ∙ sym (form-term (termFields k i c w) k _ (starts-kind termKinds k _ (term-kind k (within-bounds 1 2 k r))) i _ (starts-number i _ a) c _
+      ∙ sym (form-term (termFields k i c w) k _ (starts-kind termKinds k _ (term-kind k (within-bounds termG termB k r))) i _ (starts-number i _ a) c _
       (starts-number c _ b) w (ends-word w l))
 
   -- It is no names line: it has four fields and not six.

@@ -11,8 +11,8 @@ use Rattle.package.proofs.TermBlockTexts.{in-order-accepted}
 use Rattle.package.proofs.TermTexts.{term-line-clear, text-term, not-names}
 use Rattle.package.specs.Names.{sumNames}
 use Rattle.package.specs.Readable.{under, TermsInOrder, noTerms, termThen, SumsInOrder, noSums, sumThen}
-use Rattle.package.specs.Sums.{SumLine, fine, atEnd, block3, withSum, sumsOf}
-use Rattle.package.specs.Terms.{TermLine, LineAbove, ended2, block2}
+use Rattle.package.specs.Sums.{SumLine, sumsRead, atEnd, block3, withSum, sumsOf}
+use Rattle.package.specs.Terms.{TermLine, LineAbove, termsRead, block2}
 use Rattle.package.specs.Writing.{termFields, sumFields, termLines, sumLines}
 use Rattle.package.specs.declared.Head.{Head}
 use Rattle.package.specs.declared.Limits.{Limits}
@@ -21,11 +21,11 @@ use Rattle.text.specs.Pieces.{Pieces, piece, writeFields, empty, Clear, clear, 
 -- Block 2: the terms behind ts₀.
 module _ (h : Head) (lim : Limits) (b : HeadBounds h) (ms : Pieces) where
   pub text-block2 : (a : LineAbove) (ts₀ ts : List TermLine) (n m : ℕ) → length ts₀ ≡ m → TermsInOrder h lim a m ts
-      → block2 h lim a ts₀ n (termLines ts (piece sumNames ms)) ≡ ended2 (ts₀ ++ ts) (suc (n + length ts)) ms
+      → block2 h lim a ts₀ n (termLines ts (piece sumNames ms)) ≡ termsRead h (ts₀ ++ ts) (suc (n + length ts)) ms
   unfolding block2 termLines
   text-block2 a ts₀ [] n m e noTerms =
       let z : suc n ≡ suc (n + 0) = omega arith in
-      rw append-nil (ap (λ (x : ℕ). ended2 ts₀ x ms) z)
+      rw append-nil (ap (λ (x : ℕ). termsRead h ts₀ x ms) z)
   text-block2 a ts₀ (t ∷ ts) n m e (termThen o os) =
       let q = term-numbers h lim (t .kind) (t .item) (t .coef) (t .word) b (o .fits) in
       let f = text-term (t .kind) (t .item) (t .coef) (t .word) (o .ranked) (q .letters) (q .item) (q .coef) in
@@ -34,12 +34,12 @@ module _ (h : Head) (lim : Limits) (b : HeadBounds h) (ms : Pieces) where
       let g = not-names (t .kind) (t .item) (t .coef) (t .word) (o .ranked) (q .letters) in
       let d : length (ts₀ ++ (t ∷ [])) ≡ suc m = rw length-append (omega arith) in
       let z : suc (suc n + length ts) ≡ suc (n + suc (length ts)) = omega arith in
-      rw (block2, g, j′) (text-block2 (under a t) (ts₀ ++ (t ∷ [])) ts (suc n) (suc m) d os ∙ ap₂ (λ (x : List TermLine) (y : ℕ). ended2 x y ms)
+      rw (block2, g, j′) (text-block2 (under a t) (ts₀ ++ (t ∷ [])) ts (suc n) (suc m) d os ∙ ap₂ (λ (x : List TermLine) (y : ℕ). termsRead h x y ms)
       (append-assoc ts₀ (t ∷ []) ts) z)
 
--- Block 3: it is judged fine, and its sum lines are those that were written.
+-- Block 3: it is read, and its sum lines are those that were written.
 module _ (h : Head) (lim : Limits) (b : HeadBounds h) where
-  pub text-block3 : (k i n : ℕ) (xs : List SumLine) → SumsInOrder h lim k i n xs → (block3 h lim k i n (sumLines xs) ≡ fine) × (sumsOf n (sumLines xs) ≡ xs)
+  pub text-block3 : (k i n : ℕ) (xs : List SumLine) → SumsInOrder h lim k i n xs → (block3 h lim k i n (sumLines xs) ≡ sumsRead) × (sumsOf n (sumLines xs) ≡ xs)
   unfolding block3 sumsOf sumLines atEnd withSum
   text-block3 k i n [] noSums = (refl, refl)
   text-block3 k i n (x ∷ xs) (sumThen o os) =

@@ -8,6 +8,7 @@ use lib.Dec.{eqb}
 use lib.ListN.{length, take, drop, set, replicate}
 use Rattle.package.specs.Formula.{FormulaOutcome, wrongAt, formula, readFormula}
 use Rattle.package.specs.Head.{head}
+use Rattle.package.specs.Names.{termG, termB, sumB, sumG, sumO}
 use Rattle.package.specs.Package.{Package, Outcome, refused, read, packageLimits, readPackage}
 use Rattle.package.specs.Sums.{SumLine}
 use Rattle.package.specs.Terms.{TermLine}
@@ -211,15 +212,15 @@ pub readE : Package
 unfolding termLine sumLine
 readE = record {
   head = record { p = 7; letters = 2; gens = 1; basis = 2 };
-  terms = termLine 1 1 1 "aa" ∷ termLine 1 1 6 "b" ∷ termLine 2 1 1 "aa" ∷ termLine 2 1 6 "b" ∷ termLine 2 2 1 "ab" ∷ termLine 2 2 6 "ba" ∷ [];
+  terms = termLine termG 1 1 "aa" ∷ termLine termG 1 6 "b" ∷ termLine termB 1 1 "aa" ∷ termLine termB 1 6 "b" ∷ termLine termB 2 1 "ab" ∷ termLine termB 2 6 "ba" ∷ [];
   sums =
-      sumLine 11 1 1 1 "" 1 ""
-      ∷ sumLine 12 1 2 1 "" 1 "a"
-      ∷ sumLine 13 1 2 6 "a" 1 ""
-      ∷ sumLine 14 2 1 1 "" 1 ""
-      ∷ sumLine 15 3 1 1 "" 2 ""
-      ∷ sumLine 16 3 2 1 "" 2 "a"
-      ∷ sumLine 17 3 2 1 "b" 1 ""
+      sumLine 11 sumB 1 1 "" 1 ""
+      ∷ sumLine 12 sumB 2 1 "" 1 "a"
+      ∷ sumLine 13 sumB 2 6 "a" 1 ""
+      ∷ sumLine 14 sumG 1 1 "" 1 ""
+      ∷ sumLine 15 sumO 1 1 "" 2 ""
+      ∷ sumLine 16 sumO 2 1 "" 2 "a"
+      ∷ sumLine 17 sumO 2 1 "b" 1 ""
       ∷ [];
 }
 

@@ -52,14 +52,14 @@ unfolding rowJudged rowForm pieces
 judgeRow p letters m v n l = rowJudged p letters m v n (rowForm (fields l))
 
 -- Nothing follows the last byte 10, or else the line is unfinished.
-unfoldable pub ended : List Term → ℕ → List ℕ → FormulaOutcome
-ended ts line [] = formula ts
-ended ts line (x ∷ xs) = wrongAt line
+unfoldable pub rowsEnd : List Term → ℕ → List ℕ → FormulaOutcome
+rowsEnd ts line [] = formula ts
+rowsEnd ts line (x ∷ xs) = wrongAt line
 
 -- Lines from number `line` on, behind the terms ts, the last of which has the word v.
 unfoldable pub rows : ℕ → ℕ → Limits → List ℕ → List Term → ℕ → Pieces → FormulaOutcome
-unfolding judgeRow ended
-rows p letters m v ts line (final x) = ended ts line x
+unfolding judgeRow rowsEnd
+rows p letters m v ts line (final x) = rowsEnd ts line x
 rows p letters m v ts line (piece l ls) = elim (judgeRow p letters m v (length ts) l) [
   | noRow ↦ wrongAt line
   | row c w ↦ rows p letters m w (ts ++ (record { coef = c; word = w } ∷ [])) (suc line) ls

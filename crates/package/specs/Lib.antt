@@ -1,3 +1,4 @@
+pub mod Answer
 pub mod Names
 pub mod Bounds
 pub mod Head

@@ -1,13 +1,16 @@
 -- A package: what its bytes are read as, with the first refusal of 1 to 7 in document 01's order.
 use mathlib.Core.Bool.{true, false}
 use mathlib.Core.List.{List, []}
-use Prim.Native.Nat.{ℕ}
+use Prim.Native.Nat.{ℕ, _+_}
 use lib.Dec.{ltb}
 use lib.ListN.{length}
+use Rattle.package.specs.Answer.{Answer}
+pub use Rattle.package.specs.Answer.{refused, read}
+unfoldable pub use Rattle.package.specs.Answer.{_then_}
 use Rattle.package.specs.Head.{HeadForm, noHead, head, headForm, primeFits, countsFit}
 use Rattle.package.specs.Names.{headNames, termNames}
-use Rattle.package.specs.Sums.{SumLine, refused3, fine, block3, sumsOf}
-use Rattle.package.specs.Terms.{TermLine, start, refused2, ended2, block2}
+use Rattle.package.specs.Sums.{SumLine, block3, sumsOf}
+use Rattle.package.specs.Terms.{TermLine, start, TermBlock, block2}
 use Rattle.package.specs.declared.Head.{Head}
 use Rattle.package.specs.declared.Limits.{Limits}
 use Rattle.lists.specs.Same.{same}
@@ -20,54 +23,82 @@ pub record Package : Type 0 where
   pub sums : List SumLine
 
 -- What bytes are read as: refused with number and place, or a package.
-pub data Outcome : Type 0 where
-  refused : ℕ → ℕ → Outcome
-  read : Package → Outcome
+abbrev pub Outcome : Type 0
+Outcome = Answer Package
 
 -- A package's bounds: 48 terms in a polynomial, words of 24 letters.
 abbrev pub packageLimits : Limits
 packageLimits = record { terms = 48; len = 24 }
 
--- Block 3, from line n on, behind the terms ts.
-unfoldable pub lastBlock : Head → Limits → List TermLine → ℕ → Pieces → Outcome
-unfolding block3 sumsOf
-lastBlock h m ts n ls = elim (block3 h m 0 0 n ls) [ refused3 r k ↦ refused r k | fine ↦ read (record { head = h; terms = ts; sums = sumsOf n ls }) ]
+-- Line n is a names line, these bytes and no others. It leaves the lines behind it.
+unfoldable pub namesLine : List ℕ → ℕ → Pieces → Answer Pieces
+unfolding same
+namesLine names n (final x) = refused 2 n
+namesLine names n (piece l ls) = elim (same l names) [ false ↦ refused 2 n | true ↦ read ls ]
 
--- Blocks 2 and 3, from line 4 on.
-unfoldable pub lowerBlocks : Head → Limits → Pieces → Outcome
-unfolding block2 lastBlock start
-lowerBlocks h m ls = elim (block2 h m start [] 4 ls) [ refused2 r n ↦ refused r n | ended2 ts n ms ↦ lastBlock h m ts n ms ]
+-- What the line of counts leaves: the counts, and the lines behind it.
+pub record Counted : Type 0 where
+  pub head : Head
+  pub rest : Pieces
 
--- Line 3: the names of block 2.
-unfoldable pub line3 : Head → Limits → Pieces → Outcome
-unfolding lowerBlocks same
-line3 h m (final x) = refused 2 3
-line3 h m (piece l ls) = elim (same l termNames) [ false ↦ refused 2 3 | true ↦ lowerBlocks h m ls ]
-
--- Line 2: its shape, then 3 for p, then 4 for the other counts.
-unfoldable pub headed : Limits → HeadForm → Pieces → Outcome
-unfolding primeFits countsFit line3
-headed m noHead ls = refused 2 2
-headed m (head h) ls = elim (primeFits (h .p)) [
+-- What line 2 says: its shape, then 3 for p, then 4 for the other counts.
+unfoldable pub countsJudged : HeadForm → Pieces → Answer Counted
+unfolding primeFits countsFit
+countsJudged noHead ls = refused 2 2
+countsJudged (head h) ls = elim (primeFits (h .p)) [
   | false ↦ refused 3 2
-  | true ↦ elim (countsFit h) [ false ↦ refused 4 2 | true ↦ line3 h m ls ]
+  | true ↦ elim (countsFit h) [ false ↦ refused 4 2 | true ↦ read (record { head = h; rest = ls }) ]
 ]
 
-unfoldable pub line2 : Limits → Pieces → Outcome
-unfolding headed headForm pieces
-line2 m (final x) = refused 2 2
-line2 m (piece l ls) = headed m (headForm (fields l)) ls
+-- Line 2: the counts.
+unfoldable pub countsLine : Pieces → Answer Counted
+unfolding countsJudged headForm pieces
+countsLine (final x) = refused 2 2
+countsLine (piece l ls) = countsJudged (headForm (fields l)) ls
 
--- Line 1: the names of block 1.
-unfoldable pub line1 : Limits → Pieces → Outcome
-unfolding line2 same
-line1 m (final x) = refused 2 1
-line1 m (piece l ls) = elim (same l headNames) [ false ↦ refused 2 1 | true ↦ line2 m ls ]
+-- What the head lines leave: the counts, the number of the first line of block 2, and the lines from there on.
+pub record HeadBlock : Type 0 where
+  pub head : Head
+  pub line : ℕ
+  pub rest : Pieces
 
--- Refusal 1 first, over 65,536 bytes; then lines top down.
+-- The number of the first line of block 2: three lines stand above it.
+abbrev pub firstTerm : ℕ
+firstTerm = 4
+
+-- The number of the first sum line behind so many terms: the names line of block 3 stands between.
+abbrev pub firstSum : ℕ → ℕ
+firstSum terms = firstTerm + 1 + terms
+
+-- Line 3: the names of block 2.
+unfoldable pub termNamesLine : Counted → Answer HeadBlock
+unfolding namesLine _then_
+termNamesLine c = namesLine termNames 3 (c .rest) then λ ls. read (record { head = c .head; line = firstTerm; rest = ls })
+
+-- Lines 1 to 3: the names of block 1, the counts, the names of block 2.
+unfoldable pub headLines : Pieces → Answer HeadBlock
+unfolding namesLine countsLine termNamesLine _then_
+headLines ls = namesLine headNames 1 ls then countsLine then termNamesLine
+
+-- Block 2, behind the head lines.
+unfoldable pub termBlock : Limits → HeadBlock → Answer TermBlock
+unfolding block2 start
+termBlock m b = block2 (b .head) m start [] (b .line) (b .rest)
+
+-- Block 3, behind block 2: with its sum lines the package is whole.
+unfoldable pub sumBlock : Limits → TermBlock → Outcome
+unfolding block3 sumsOf _then_
+sumBlock m b = block3 (b .head) m 0 0 (b .line) (b .rest) then λ _. read (record { head = b .head; terms = b .terms; sums = sumsOf (b .line) (b .rest) })
+
+-- Refusal 1: more than 65,536 bytes. Else the lines.
+unfoldable pub sized : List ℕ → Answer Pieces
+unfolding pieces
+sized bytes = elim (ltb 65536 (length bytes)) [ true ↦ refused 1 0 | false ↦ read (lines bytes) ]
+
+-- The size, the head lines, the terms and the sums, each behind what the one before left.
 unfoldable pub readWith : Limits → List ℕ → Outcome
-unfolding line1 pieces
-readWith m bytes = elim (ltb 65536 (length bytes)) [ true ↦ refused 1 0 | false ↦ line1 m (lines bytes) ]
+unfolding sized headLines termBlock sumBlock _then_
+readWith m bytes = sized bytes then headLines then termBlock m then sumBlock m
 
 -- A package, within its bounds.
 unfoldable pub readPackage : List ℕ → Outcome

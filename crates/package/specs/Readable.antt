@@ -2,13 +2,13 @@
 use mathlib.Core.Path.{_≡_}
 use mathlib.Core.Bool.{true}
 use mathlib.Core.List.{List, [], _∷_}
-use Prim.Native.Nat.{ℕ, suc, _+_, _<_}
+use Prim.Native.Nat.{ℕ, suc, _<_}
 use lib.ListN.{length}
 use Rattle.algebra.specs.Poly.{Term}
 use Rattle.package.specs.Formula.{rowFits}
 use Rattle.package.specs.Head.{primeFits, countsFit}
 use Rattle.package.specs.Names.{termG, termB, sumB, sumO}
-use Rattle.package.specs.Package.{Package, packageLimits}
+use Rattle.package.specs.Package.{Package, packageLimits, firstSum}
 use Rattle.package.specs.Sums.{SumLine, sumFits, sumFollows}
 use Rattle.package.specs.Terms.{TermLine, termFits, LineAbove, start, follows, counted, hasRoom}
 use Rattle.package.specs.declared.Head.{Head}
@@ -28,6 +28,7 @@ pub record TermInOrder (h : Head) (m : Limits) (a : LineAbove) (n : ℕ) (t : Te
   pub order : follows a (t .kind) (t .item) (t .word) ≡ true
   pub room : hasRoom m a n (t .kind) (t .item) ≡ true
 
+-- Terms behind n terms, below the line above: each is in order below the one before it.
 pub data TermsInOrder (h : Head) (m : Limits) : LineAbove → ℕ → List TermLine → Type 0 where
   noTerms : {a : LineAbove} {n : ℕ} → TermsInOrder h m a n []
   termThen : {a : LineAbove} {n : ℕ} {t : TermLine} {ts : List TermLine} → TermInOrder h m a n t → TermsInOrder h m (under a t) (suc n) ts → TermsInOrder h m a n (t ∷ ts)
@@ -40,16 +41,17 @@ pub record SumInOrder (h : Head) (m : Limits) (k′ i′ n : ℕ) (x : SumLine) 
   pub fits : sumFits h m (x .kind) (x .item) (x .coef) (x .left) (x .of) (x .right) ≡ true
   pub order : sumFollows k′ i′ (x .kind) (x .item) ≡ true
 
+-- Sum lines from line number n on, below a line of kind k′ and item i′: each is in order below the one before it.
 pub data SumsInOrder (h : Head) (m : Limits) : ℕ → ℕ → ℕ → List SumLine → Type 0 where
   noSums : {k i n : ℕ} → SumsInOrder h m k i n []
   sumThen : {k i n : ℕ} {x : SumLine} {xs : List SumLine} → SumInOrder h m k i n x → SumsInOrder h m (x .kind) (x .item) (suc n) xs → SumsInOrder h m k i n (x ∷ xs)
 
--- A package whose counts, terms and sum lines are in bounds and in order. Its first sum line has the number behind three lines, the terms and one names line.
+-- A package whose counts, terms and sum lines are in bounds and in order. Its sum lines are numbered from the line of the first on.
 pub record Readable (P : Package) : Type 0 where
   pub prime : primeFits (P .head .p) ≡ true
   pub counts : countsFit (P .head) ≡ true
   pub terms : TermsInOrder (P .head) packageLimits start 0 (P .terms)
-  pub sums : SumsInOrder (P .head) packageLimits 0 0 (5 + length (P .terms)) (P .sums)
+  pub sums : SumsInOrder (P .head) packageLimits 0 0 (firstSum (length (P .terms))) (P .sums)
 
 -- The terms of a formula behind n terms, the last of which has the word v: each in bounds, below the one above, and not one too many.
 pub data RowsInOrder (p letters : ℕ) (m : Limits) : List ℕ → ℕ → List Term → Type 0 where

@@ -3,6 +3,7 @@ use mathlib.Core.Bool.{Bool, true, false}
 use mathlib.Core.List.{List, [], _∷_}
 use Prim.Native.Nat.{ℕ, suc}
 use lib.Dec.{leb, ltb, eqb}
+use Rattle.package.specs.Answer.{Answer, refused, read}
 use Rattle.package.specs.Bounds.{coefFits, wordFits}
 use Rattle.package.specs.Names.{sumKinds, sumB, sumG}
 use Rattle.package.specs.declared.Head.{Head}
@@ -75,61 +76,46 @@ sumFits h m k i c l o r = elim (sumItemFits h k i) [
 unfoldable pub sumFollows : ℕ → ℕ → ℕ → ℕ → Bool
 sumFollows k′ i′ k i = elim (eqb k k′) [ false ↦ ltb k′ k | true ↦ leb i′ i ]
 
--- What a sum line is judged.
+-- What a sum line is judged: refused by a number, or in order, with its kind and item.
 pub data SumVerdict : Type 0 where
-  refuse3 : ℕ → SumVerdict
-  accept3 : ℕ → ℕ → SumVerdict
+  refusedBy : ℕ → SumVerdict
+  accept : ℕ → ℕ → SumVerdict
 
 -- In one line 2, 5, 6.
 unfoldable pub judged3 : Head → Limits → ℕ → ℕ → SumForm → SumVerdict
 unfolding sumFits sumFollows
-judged3 h m k′ i′ noSum = refuse3 2
+judged3 h m k′ i′ noSum = refusedBy 2
 judged3 h m k′ i′ (sum k i c l o r) = elim (sumFits h m k i c l o r) [
-  | false ↦ refuse3 5
-  | true ↦ elim (sumFollows k′ i′ k i) [ false ↦ refuse3 6 | true ↦ accept3 k i ]
+  | false ↦ refusedBy 5
+  | true ↦ elim (sumFollows k′ i′ k i) [ false ↦ refusedBy 6 | true ↦ accept k i ]
 ]
 
+-- The line l from its bytes.
 unfoldable pub judgeSum : Head → Limits → ℕ → ℕ → List ℕ → SumVerdict
 unfolding judged3 sumForm pieces
 judgeSum h m k′ i′ l = judged3 h m k′ i′ (sumForm (fields l))
 
--- What block 3 is judged.
-pub data Block3 : Type 0 where
-  refused3 : ℕ → ℕ → Block3
-  fine : Block3
+-- Block 3 leaves nothing behind.
+abbrev pub sumsRead : Answer (Unit {0})
+sumsRead = read tt
 
 -- Nothing follows the last byte 10, or else line n is unfinished.
-unfoldable pub atEnd : ℕ → List ℕ → Block3
-atEnd n [] = fine
-atEnd n (x ∷ xs) = refused3 2 n
+unfoldable pub atEnd : ℕ → List ℕ → Answer (Unit {0})
+atEnd n [] = sumsRead
+atEnd n (x ∷ xs) = refused 2 n
 
--- Sum lines from line n on.
-unfoldable pub block3 : Head → Limits → ℕ → ℕ → ℕ → Pieces → Block3
+-- Sum lines from line n on, behind a line of kind k′ and item i′.
+unfoldable pub block3 : Head → Limits → ℕ → ℕ → ℕ → Pieces → Answer (Unit {0})
 unfolding judgeSum atEnd
 block3 h m k′ i′ n (final x) = atEnd n x
-block3 h m k′ i′ n (piece l ls) = elim (judgeSum h m k′ i′ l) [ refuse3 r ↦ refused3 r n | accept3 k i ↦ block3 h m k i (suc n) ls ]
+block3 h m k′ i′ n (piece l ls) = elim (judgeSum h m k′ i′ l) [ refusedBy r ↦ refused r n | accept k i ↦ block3 h m k i (suc n) ls ]
 
--- A sum line and the lines behind it.
-pub data GotSum : Type 0 where
-  noneSum : GotSum
-  someSum : ℕ → ℕ → ℕ → List ℕ → ℕ → List ℕ → Pieces → GotSum
-
--- What a line says, with the lines behind it.
-unfoldable pub gotSumOf : SumForm → Pieces → GotSum
-gotSumOf noSum ls = noneSum
-gotSumOf (sum k i c l o r) ls = someSum k i c l o r ls
-
--- The first line, which is ended, and is a sum line.
-unfoldable pub sumThen : Pieces → GotSum
-unfolding gotSumOf sumForm pieces
-sumThen (final x) = noneSum
-sumThen (piece l ls) = gotSumOf (sumForm (fields l)) ls
-
--- The sum lines from line n on, with their numbers.
+-- The sum lines xs, with line n before them where it says one.
 unfoldable pub withSum : ℕ → SumForm → List SumLine → List SumLine
 withSum n noSum xs = xs
 withSum n (sum k i c l o r) xs = record { line = n; kind = k; item = i; coef = c; left = l; of = o; right = r } ∷ xs
 
+-- The sum lines from line n on, with their numbers.
 unfoldable pub sumsOf : ℕ → Pieces → List SumLine
 unfolding withSum sumForm pieces
 sumsOf n (final x) = []

@@ -4,6 +4,7 @@ use mathlib.Core.List.{List, [], _∷_, _++_}
 use Prim.Native.Nat.{ℕ, suc}
 use lib.Dec.{ltb, eqb}
 use lib.ListN.{length}
+use Rattle.package.specs.Answer.{Answer, refused, read}
 use Rattle.package.specs.Bounds.{coefFits, wordFits}
 use Rattle.words.specs.Below.{isBelow}
 use Rattle.package.specs.Names.{sumNames, termKinds, termG}
@@ -82,40 +83,47 @@ unfoldable pub hasRoom : Limits → LineAbove → ℕ → ℕ → ℕ → Bool
 unfolding counted
 hasRoom m a total k i = elim (ltb (m .terms) (counted a k i)) [ true ↦ false | false ↦ ltb total 1024 ]
 
--- What a term line is judged.
+-- What a term line is judged: refused by a number, or in order.
 pub data TermVerdict : Type 0 where
-  refuse : ℕ → TermVerdict
+  refusedBy : ℕ → TermVerdict
   accept : ℕ → ℕ → ℕ → List ℕ → TermVerdict
 
 -- In one line 2, 5, 6, 7.
 unfoldable pub judged : Head → Limits → LineAbove → ℕ → TermForm → TermVerdict
 unfolding termFits follows hasRoom
-judged h m a total noTerm = refuse 2
+judged h m a total noTerm = refusedBy 2
 judged h m a total (term k i c w) = elim (termFits h m k i c w) [
-  | false ↦ refuse 5
+  | false ↦ refusedBy 5
   | true ↦ elim (follows a k i w) [
-    | false ↦ refuse 6
-    | true ↦ elim (hasRoom m a total k i) [ false ↦ refuse 7 | true ↦ accept k i c w ]
+    | false ↦ refusedBy 6
+    | true ↦ elim (hasRoom m a total k i) [ false ↦ refusedBy 7 | true ↦ accept k i c w ]
   ]
 ]
 
+-- The line l from its bytes.
 unfoldable pub judgeTerm : Head → Limits → LineAbove → ℕ → List ℕ → TermVerdict
 unfolding judged termForm pieces
 judgeTerm h m a total l = judged h m a total (termForm (fields l))
 
--- What block 2 is read as: refused with number and line, or its terms, the number of the line below it, and the lines from there on.
-pub data Block2 : Type 0 where
-  refused2 : ℕ → ℕ → Block2
-  ended2 : List TermLine → ℕ → Pieces → Block2
+-- What block 2 leaves: the counts above it, its terms, the number of the line below it, and the lines from there on.
+pub record TermBlock : Type 0 where
+  pub head : Head
+  pub terms : List TermLine
+  pub line : ℕ
+  pub rest : Pieces
+
+-- Block 2, read with these.
+abbrev pub termsRead : Head → List TermLine → ℕ → Pieces → Answer TermBlock
+termsRead h ts n ls = read (record { head = h; terms = ts; line = n; rest = ls })
 
 -- Term lines from line n on down to the names line of block 3, behind the terms ts.
-unfoldable pub block2 : Head → Limits → LineAbove → List TermLine → ℕ → Pieces → Block2
+unfoldable pub block2 : Head → Limits → LineAbove → List TermLine → ℕ → Pieces → Answer TermBlock
 unfolding judgeTerm counted same
-block2 h m a ts n (final x) = refused2 2 n
+block2 h m a ts n (final x) = refused 2 n
 block2 h m a ts n (piece l ls) = elim (same l sumNames) [
-  | true ↦ ended2 ts (suc n) ls
+  | true ↦ termsRead h ts (suc n) ls
   | false ↦ elim (judgeTerm h m a (length ts) l) [
-    | refuse r ↦ refused2 r n
+    | refusedBy r ↦ refused r n
     | accept k i c w ↦
         block2 h m (record { kind = k; item = i; word = w; count = counted a k i }) (ts ++ (record { kind = k; item = i; coef = c; word = w } ∷ [])) (suc n) ls
   ]

@@ -1,6 +1,27 @@
 // What packages and formulas are, as definitions (specs/) and laws about them (proofs/), with the types that definitions and readers share.
 // The readers are in crates linetests, termreading, sumreading, reading and formulas.
 
+// A refusal: its number, and the line that it names, or 0 where it names none.
+pub struct Refusal {
+    pub number: u32,
+    pub place: usize,
+}
+
+// The kinds of block 2 by their ranks: terms of relations.
+pub const TERM_G: u32 = 1;
+
+// Terms of basis polynomials.
+pub const TERM_B: u32 = 2;
+
+// The kinds of block 3 by their ranks: sums that equal basis polynomials.
+pub const SUM_B: u32 = 1;
+
+// Sums that equal relations.
+pub const SUM_G: u32 = 2;
+
+// Sums that equal differences of overlaps.
+pub const SUM_O: u32 = 3;
+
 // The value line of block 1: the prime, the number of letters, of relations and of basis polynomials.
 pub struct Head {
     pub p: u32,
@@ -15,15 +36,46 @@ pub struct Limits {
     pub len: usize,
 }
 
+// Whether a line is the names line that is wanted: no, or where the line behind it starts.
+pub enum NamesRead {
+    Misshapen,
+    Next(usize),
+}
+
 // What a line says as the value line of block 1.
 pub enum HeadRead {
-    NoCounts,
+    Misshapen,
     Counts {
         p: u32,
         letters: u32,
         gens: u32,
         basis: u32,
     },
+}
+
+// The counts of line 2, and where the line behind it starts.
+pub struct CountsAt {
+    pub head: Head,
+    pub at: usize,
+}
+
+// What line 2 is read as.
+pub enum CountsRead {
+    Refused(Refusal),
+    Read(CountsAt),
+}
+
+// What the head lines leave: the counts, and the place and the number of the first line of block 2.
+pub struct HeadAt {
+    pub head: Head,
+    pub at: usize,
+    pub line: usize,
+}
+
+// What the head lines are read as.
+pub enum HeadEnded {
+    Refused(Refusal),
+    Read(HeadAt),
 }
 
 // What a line says as a term line: its word is the len letters from start on.
@@ -40,8 +92,8 @@ pub enum TermRead {
 
 // What a term line is judged: refused by a number, or in order.
 pub enum TermJudged {
-    Refuse(u32),
-    Accept {
+    Refused(u32),
+    Accepted {
         kind: u32,
         item: u32,
         coef: u32,
@@ -59,22 +111,22 @@ pub struct Last {
     pub count: usize,
 }
 
-// Where block 2 ended: at a refusal, or at the names line of block 3, with the number of terms, and the place and the number of the line below it.
-pub enum Ended {
-    Refused {
-        number: u32,
-        place: usize,
-    },
-    Names {
-        terms: usize,
-        at: usize,
-        line: usize,
-    },
+// What block 2 leaves: the number of its terms, and the place and the number of the line below the names line of block 3.
+pub struct TermsAt {
+    pub terms: usize,
+    pub at: usize,
+    pub line: usize,
+}
+
+// What block 2 is read as.
+pub enum TermsEnded {
+    Refused(Refusal),
+    Read(TermsAt),
 }
 
 // What the line at a place of a text says as a sum line: its words are the letters from left and from right on, and the line behind it starts at next.
 pub enum SumRead {
-    Shapeless,
+    Misshapen,
     Sum {
         kind: u32,
         item: u32,
@@ -90,22 +142,19 @@ pub enum SumRead {
 
 // What a sum line is judged: refused by a number, or in order, with its kind and item, and where the line behind it starts.
 pub enum SumJudged {
-    Reject(u32),
-    Admit { kind: u32, item: u32, next: usize },
+    Refused(u32),
+    Accepted { kind: u32, item: u32, next: usize },
 }
 
 // What block 3 is judged.
-pub enum Sums {
-    Fault { number: u32, place: usize },
+pub enum SumsEnded {
+    Refused(Refusal),
     Sound,
 }
 
-// What a package is read as: refused with number and place, or its counts, the number of its terms, and the place and number of the first sum line.
+// What a package is read as: refused, or its counts, the number of its terms, and the place and number of the first sum line.
 pub enum Reading {
-    Refusal {
-        number: u32,
-        place: usize,
-    },
+    Refused(Refusal),
     Whole {
         head: Head,
         terms: usize,
@@ -114,14 +163,14 @@ pub enum Reading {
     },
 }
 
-// What a line says as a term of a formula, in order or not: its word is the len letters from start on.
+// What a line says as a term of a formula: refused, whatever is wrong, or its word is the len letters from start on.
 pub enum RowRead {
-    NoRow,
+    Refused,
     Row { coef: u32, start: usize, len: usize },
 }
 
 // What a formula is read as: refused at a line, or the number of its terms.
 pub enum FormulaRead {
-    WrongAt(usize),
+    Refused(usize),
     Formula(usize),
 }

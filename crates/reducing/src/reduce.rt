@@ -45,7 +45,7 @@ fn reduce_formula(
     let limits = Limits { terms: 48, len: 24 };
     let r = read_formula(text, h.p, h.letters, limits, &mut fc, &mut fs, &mut fl);
     match r {
-        FormulaRead::WrongAt(line) => Reduced::Refused {
+        FormulaRead::Refused(line) => Reduced::Refused {
             number: 16,
             place: line,
         },

@@ -9,7 +9,8 @@ use lib.Dec.{eqb}
 use lib.ListN.{drop}
 use borrow.Author.Tests.{eq-eqb, ne-eqb}
 use Rattle.text.specs.Pieces.{Pieces, final, piece, lines, fields, part}
-use Rattle.package.specs.Sums.{SumForm, noSum, sum, sumForm, withSum, sumsOf, noneSum, someSum, gotSumOf, sumThen}
+use Rattle.package.specs.Held.{noneSum, someSum, gotSumOf, nextSum}
+use Rattle.package.specs.Sums.{SumForm, noSum, sum, sumForm, withSum, sumsOf}
 use Rattle.sumlines.specs.declared.SumAt.{SumAt}
 use Rattle.sumlines.specs.Lines.{sumsAt, heldLine, heldFrom, NumberedFrom, firstIs}
 
@@ -28,8 +29,8 @@ unfolding heldFrom
 held-none bytes n r e = rw (heldFrom, e)
 
 -- no sum line, or none that is ended
-none-held : (n : ℕ) (ps : Pieces) → sumThen ps ≡ noneSum → NumberedFrom n (sumsOf n ps) → sumsOf n ps ≡ []
-unfolding sumThen gotSumOf sumsOf withSum NumberedFrom
+none-held : (n : ℕ) (ps : Pieces) → nextSum ps ≡ noneSum → NumberedFrom n (sumsOf n ps) → sumsOf n ps ≡ []
+unfolding nextSum gotSumOf sumsOf withSum NumberedFrom
 none-held n (final x) q k = refl
 none-held n (piece l ls) q k = go (sumForm (fields l)) q k
   where
@@ -37,14 +38,14 @@ none-held n (piece l ls) q k = go (sumForm (fields l)) q k
     go noSum u v = none-lower (suc n) n ls (omega arith) v
     go (sum k′ i c l′ o r) u v = absurd (let y : _≡_ {A = ℕ} 0 1 = cc in omega arith)
 
-pub line-none : (bytes : List ℕ) (at : ℕ) → sumThen (lines (drop at bytes)) ≡ noneSum → (r : SumAt) → r .present ≡ false → (n : ℕ)
+pub line-none : (bytes : List ℕ) (at : ℕ) → nextSum (lines (drop at bytes)) ≡ noneSum → (r : SumAt) → r .present ≡ false → (n : ℕ)
     → NumberedFrom n (sumsAt bytes at n) → heldFrom bytes n r ≡ sumsAt bytes at n
 line-none bytes at q r p n k = held-none bytes n r p ∙ sym (none-held n (lines (drop at bytes)) q k)
 
 -- a sum line
-some-held : (n k i c : ℕ) (l : List ℕ) (o : ℕ) (r : List ℕ) (ls ps : Pieces) → sumThen ps ≡ someSum k i c l o r ls
+some-held : (n k i c : ℕ) (l : List ℕ) (o : ℕ) (r : List ℕ) (ls ps : Pieces) → nextSum ps ≡ someSum k i c l o r ls
     → withSum n (sum k i c l o r) (sumsOf (suc n) ls) ≡ sumsOf n ps
-unfolding sumThen gotSumOf sumsOf
+unfolding nextSum gotSumOf sumsOf
 some-held n k i c l o r ls (final x) q = absurd (let y : _≡_ {A = ℕ} 0 1 = cc in omega arith)
 some-held n k i c l o r ls (piece x ms) q = go (sumForm (fields x)) refl q
   where
@@ -56,7 +57,7 @@ some-held n k i c l o r ls (piece x ms) q = go (sumForm (fields x)) refl q
         let w : ls ≡ ms = cc in
         ap₂ (λ f (zs : Pieces). withSum n f (sumsOf (suc n) zs)) (p ∙ sym e) w
 
-pub line-sum : (bytes : List ℕ) (at k i c a m o b l e : ℕ) → sumThen (lines (drop at bytes)) ≡ someSum k i c (part bytes a m) o (part bytes b l) (lines (drop e bytes))
+pub line-sum : (bytes : List ℕ) (at k i c a m o b l e : ℕ) → nextSum (lines (drop at bytes)) ≡ someSum k i c (part bytes a m) o (part bytes b l) (lines (drop e bytes))
     → (n : ℕ)
     → heldFrom bytes n (record { present = true; kind = k; item = i; coef = c; left = a; leftlen = m; of = o; right = b; rightlen = l; next = e }) ≡ sumsAt bytes at n
 unfolding heldFrom withSum

@@ -10,10 +10,10 @@ use borrow.Author.Tests.{ne-eqb}
 use Rattle.fieldreading.proofs.FieldReading.{word-of-last}
 use Rattle.package.proofs.SumLines.{sum-kind, sum-item, sum-coef, sum-left, sum-of, sum-right, sum-whole}
 use Rattle.package.proofs.SumTexts.{known-kind, kind-clear}
-use Rattle.package.specs.Held.{seenLineWord, seenSum}
-use Rattle.package.specs.declared.SumRead.the-variants.{Shapeless, Sum}
+use Rattle.package.specs.Held.{seenLineWord, GotSum, someSum, gotSumOf, nextSum, seenSum}
+use Rattle.package.specs.declared.SumRead.{SumRead}
 use Rattle.package.specs.Names.{sumKinds}
-use Rattle.package.specs.Sums.{noSum, sum, sumForm, GotSum, someSum, gotSumOf, sumThen}
+use Rattle.package.specs.Sums.{noSum, sum, sumForm}
 use Rattle.text.proofs.Bytewise.{within-bounds}
 use Rattle.text.proofs.FieldTexts.{number-starts, starts-number, number-clear, word-starts, starts-word, word-clear, kind-starts, starts-kind}
 use Rattle.text.proofs.PieceTexts.{joined-pieces, clear-pieces, pieces-first}
@@ -166,47 +166,47 @@ last-line (piece l ms) w ls a = go (wordOf l) refl a
         (sym (word-of-last l) ∙ e ∙ ap word p, ap ended q)
 
 -- The first line as a sum line.
-line-unended : (s : List ℕ) (ps : Pieces) → behind ps ≡ unended → seenSum s Shapeless ≡ sumThen ps
-unfolding seenSum sumThen behind
+line-unended : (s : List ℕ) (ps : Pieces) → behind ps ≡ unended → seenSum s SumRead.Misshapen ≡ nextSum ps
+unfolding seenSum nextSum behind
 line-unended s (final l) h = refl
 line-unended s (piece l ls) h = absurd (let y : _≡_ {A = ℕ} 0 1 = cc in omega arith)
 
-line-refused : (s : List ℕ) (ps : Pieces) → noSum ≡ sumForm (fields (first ps)) → seenSum s Shapeless ≡ sumThen ps
-unfolding seenSum sumThen gotSumOf first
+line-refused : (s : List ℕ) (ps : Pieces) → noSum ≡ sumForm (fields (first ps)) → seenSum s SumRead.Misshapen ≡ nextSum ps
+unfolding seenSum nextSum gotSumOf first
 line-refused s (final l) h = refl
 line-refused s (piece l ls) h = ap (λ x. gotSumOf x ls) h
 
 line-whole : (ps : Pieces) (k i c : ℕ) (l : List ℕ) (o : ℕ) (r : List ℕ) (ls : Pieces) → sum k i c l o r ≡ sumForm (fields (first ps)) → behind ps ≡ ended ls
-    → someSum k i c l o r ls ≡ sumThen ps
-unfolding sumThen gotSumOf first behind
+    → someSum k i c l o r ls ≡ nextSum ps
+unfolding nextSum gotSumOf first behind
 line-whole (final x) k i c l o r ls h e = absurd (let y : _≡_ {A = ℕ} 0 1 = cc in omega arith)
 line-whole (piece x ms) k i c l o r ls h e = let q : ls ≡ ms = cc in ap₂ gotSumOf h q
 
 -- The six fields, in the text.
 module _ (t : List ℕ) where
-  pub line-kind : (s : List ℕ) → numThen (rank sumKinds) (fields t) ≡ none → seenSum s Shapeless ≡ sumThen (lines t)
+  pub line-kind : (s : List ℕ) → numThen (rank sumKinds) (fields t) ≡ none → seenSum s SumRead.Misshapen ≡ nextSum (lines t)
   line-kind s a = line-refused s (lines t) (sum-kind (fields (first (lines t))) (num-refused (rank sumKinds) t a))
 
   module _ (k : ℕ) (t₁ : List ℕ) (a : numThen (rank sumKinds) (fields t) ≡ some k (fields t₁)) where
-    pub line-item : (s : List ℕ) → numThen number (fields t₁) ≡ none → seenSum s Shapeless ≡ sumThen (lines t)
+    pub line-item : (s : List ℕ) → numThen number (fields t₁) ≡ none → seenSum s SumRead.Misshapen ≡ nextSum (lines t)
     line-item s b = line-refused s (lines t) (sum-item (fields (first (lines t))) k (fields (first (lines t₁))) (kind-line t t₁ k a .0) (num-refused number t₁ b))
 
     module _ (i : ℕ) (t₂ : List ℕ) (b : numThen number (fields t₁) ≡ some i (fields t₂)) where
-      pub line-coef : (s : List ℕ) → numThen number (fields t₂) ≡ none → seenSum s Shapeless ≡ sumThen (lines t)
+      pub line-coef : (s : List ℕ) → numThen number (fields t₂) ≡ none → seenSum s SumRead.Misshapen ≡ nextSum (lines t)
       line-coef s c =
           line-refused s (lines t)
           (sum-coef (fields (first (lines t))) k (fields (first (lines t₁))) (kind-line t t₁ k a .0) i (fields (first (lines t₂))) (number-line t₁ t₂ i b .0)
           (num-refused number t₂ c))
 
       module _ (m : ℕ) (t₃ : List ℕ) (c : numThen number (fields t₂) ≡ some m (fields t₃)) where
-        pub line-left : (s : List ℕ) → wordThen (fields t₃) ≡ noneWord → seenSum s Shapeless ≡ sumThen (lines t)
+        pub line-left : (s : List ℕ) → wordThen (fields t₃) ≡ noneWord → seenSum s SumRead.Misshapen ≡ nextSum (lines t)
         line-left s d =
             line-refused s (lines t)
             (sum-left (fields (first (lines t))) k (fields (first (lines t₁))) (kind-line t t₁ k a .0) i (fields (first (lines t₂))) (number-line t₁ t₂ i b .0)
             m (fields (first (lines t₃))) (number-line t₂ t₃ m c .0) (word-refused t₃ d))
 
         module _ (l t₄ : List ℕ) (d : wordThen (fields t₃) ≡ someWord l (fields t₄)) where
-          pub line-of : (s : List ℕ) → numThen number (fields t₄) ≡ none → seenSum s Shapeless ≡ sumThen (lines t)
+          pub line-of : (s : List ℕ) → numThen number (fields t₄) ≡ none → seenSum s SumRead.Misshapen ≡ nextSum (lines t)
           line-of s e =
               line-refused s (lines t)
               (sum-of (fields (first (lines t))) k (fields (first (lines t₁))) (kind-line t t₁ k a .0) i (fields (first (lines t₂))) (number-line t₁ t₂ i b .0)
@@ -216,7 +216,7 @@ module _ (t : List ℕ) where
             same-behind : behind (lines t) ≡ behind (lines t₅)
             same-behind = kind-line t t₁ k a .1 ∙ number-line t₁ t₂ i b .1 ∙ number-line t₂ t₃ m c .1 ∙ word-line t₃ t₄ l d .1 ∙ number-line t₄ t₅ o e .1
 
-            pub line-right : (s : List ℕ) → wordThen (lines t₅) ≡ noneWord → seenSum s Shapeless ≡ sumThen (lines t)
+            pub line-right : (s : List ℕ) → wordThen (lines t₅) ≡ noneWord → seenSum s SumRead.Misshapen ≡ nextSum (lines t)
             line-right s f =
                 ⊎-elim (λ u. line-unended s (lines t) (same-behind ∙ u))
                 (λ u.
@@ -227,7 +227,7 @@ module _ (t : List ℕ) where
                 (last-refused (lines t₅) f)
 
             module _ (r : List ℕ) (ls : Pieces) (f : wordThen (lines t₅) ≡ someWord r ls) where
-              pub line-sum : someSum k i m l o r ls ≡ sumThen (lines t)
+              pub line-sum : someSum k i m l o r ls ≡ nextSum (lines t)
               line-sum =
                   let u = last-line (lines t₅) r ls f in
                   line-whole (lines t) k i m l o r ls
@@ -240,7 +240,7 @@ module _ (t : List ℕ) where
 
 -- The answer that says it.
 pub sum-seen : (s : List ℕ) (k i c a m o b n e : ℕ) (x : GotSum) → someSum k i c (part s a m) o (part s b n) (lines (drop e s)) ≡ x
-    → seenSum s (Sum k i c a m o b n e) ≡ x
+    → seenSum s (SumRead.Sum k i c a m o b n e) ≡ x
 unfolding seenSum
 sum-seen s k i c a m o b n e x h = h
 

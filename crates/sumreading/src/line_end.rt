@@ -1,4 +1,4 @@
-// The last word of a line: a newline ends it, so the line is read without a look for its end first.
+// The last word of a line: a newline ends it, so the line is read without a search for its end first.
 
 use lists::bytes::wide;
 use text::WordAt;

@@ -7,9 +7,12 @@ use linetests::bounds::word_fits;
 use numberreading::number::inner_number;
 use package::Head;
 use package::Limits;
+use package::Refusal;
+use package::SUM_B;
+use package::SUM_G;
 use package::SumJudged;
 use package::SumRead;
-use package::Sums;
+use package::SumsEnded;
 use text::NumAt;
 use text::WordAt;
 use text::bytes::is_within;
@@ -18,14 +21,14 @@ ghost use mathlib.Core.Path.{_≡_};
 ghost use Prim.Native.Nat.{ℕ, _+_, _≤_, _<_};
 ghost use lib.ListN.{length, drop};
 ghost use Rattle.text.specs.Pieces.{lines};
-ghost use Rattle.package.specs.Sums.{sumItemFits, ofs, sumFits, sumFollows, block3, sumThen};
-ghost use Rattle.package.specs.Held.{seenSum, SumInside, seenSumJudged, JudgedInside, seen3};
+ghost use Rattle.package.specs.Sums.{sumItemFits, ofs, sumFits, sumFollows, block3};
+ghost use Rattle.package.specs.Held.{nextSum, seenSum, SumInside, seenSumJudged, JudgedInside, seenSums};
 
 // The sum line from the place at on: kind item coef left of right. Its fields are read from the text: no field has a newline in it,
-// and the last one wants a newline behind it.
+// and a newline must stand behind the last one.
 pub fn read_sum(s: &[u8], at: usize) -> SumRead
     requires { ⌜ at ≤ length (now s) ⌝ }
-    ensures { λ r. ⌜ seenSum (now (s .entry)) r ≡ sumThen (lines (drop at (now (s .entry)))) ⌝ }
+    ensures { λ r. ⌜ seenSum (now (s .entry)) r ≡ nextSum (lines (drop at (now (s .entry)))) ⌝ }
     ensures { λ r. ⌜ SumInside (now (s .entry)) at r ⌝ }
 {
     let NumAt::Read {
@@ -33,38 +36,38 @@ pub fn read_sum(s: &[u8], at: usize) -> SumRead
         next: a,
     } = inner_rank(b"BGO", s, at)
     else {
-        return SumRead::Shapeless;
+        return SumRead::Misshapen;
     };
     let NumAt::Read {
         value: item,
         next: b,
     } = inner_number(s, a)
     else {
-        return SumRead::Shapeless;
+        return SumRead::Misshapen;
     };
     let NumAt::Read {
         value: coef,
         next: c,
     } = inner_number(s, b)
     else {
-        return SumRead::Shapeless;
+        return SumRead::Misshapen;
     };
     let WordAt::Spans {
         len: left_len,
         next: d,
     } = inner_word(s, c)
     else {
-        return SumRead::Shapeless;
+        return SumRead::Misshapen;
     };
     let NumAt::Read { value: of, next: e } = inner_number(s, d) else {
-        return SumRead::Shapeless;
+        return SumRead::Misshapen;
     };
     let WordAt::Spans {
         len: right_len,
         next: f,
     } = line_word(s, e)
     else {
-        return SumRead::Shapeless;
+        return SumRead::Misshapen;
     };
     SumRead::Sum {
         kind: kind,
@@ -83,10 +86,10 @@ pub fn read_sum(s: &[u8], at: usize) -> SumRead
 fn sum_item_fits(h: Head, kind: u32, item: u32) -> bool
     ensures { λ r. ⌜ r ≡ sumItemFits h kind item ⌝ }
 {
-    if kind == 1 {
+    if kind == SUM_B {
         return is_within(1, h.basis, item);
     }
-    if kind == 2 {
+    if kind == SUM_G {
         return is_within(1, h.gens, item);
     }
     1 <= item
@@ -96,7 +99,7 @@ fn sum_item_fits(h: Head, kind: u32, item: u32) -> bool
 fn ofs_of(h: Head, kind: u32) -> u32
     ensures { λ r. ⌜ r ≡ ofs h kind ⌝ }
 {
-    if kind == 1 {
+    if kind == SUM_B {
         return h.gens;
     }
     h.basis
@@ -167,17 +170,17 @@ pub fn judge_sum(
         next,
     } = read_sum(s, at)
     else {
-        return SumJudged::Reject(2);
+        return SumJudged::Refused(2);
     };
     let a = left + left_len;
     let b = right + right_len;
     if !sum_fits(h, m, kind, item, coef, &s[left..a], of, &s[right..b]) {
-        return SumJudged::Reject(5);
+        return SumJudged::Refused(5);
     }
     if !sum_follows(last_kind, last_item, kind, item) {
-        return SumJudged::Reject(6);
+        return SumJudged::Refused(6);
     }
-    SumJudged::Admit {
+    SumJudged::Accepted {
         kind: kind,
         item: item,
         next: next,
@@ -185,10 +188,10 @@ pub fn judge_sum(
 }
 
 // Block 3, from the line that starts at the place from on, which has the number first.
-pub fn judge_sums(h: Head, m: Limits, s: &[u8], from: usize, first: usize) -> Sums
+pub fn judge_sum_block(h: Head, m: Limits, s: &[u8], from: usize, first: usize) -> SumsEnded
     requires { ⌜ h .letters ≤ 26 ⌝ }
     requires { ⌜ (from ≤ length (now s)) × (first ≤ from + 4) × (length (now s) ≤ 65536) ⌝ }
-    ensures { λ r. ⌜ seen3 r ≡ block3 h m 0 0 first (lines (drop from (now (s .entry)))) ⌝ }
+    ensures { λ r. ⌜ seenSums r ≡ block3 h m 0 0 first (lines (drop from (now (s .entry)))) ⌝ }
 {
     let mut kind = 0;
     let mut item = 0;
@@ -197,13 +200,13 @@ pub fn judge_sums(h: Head, m: Limits, s: &[u8], from: usize, first: usize) -> Su
     while at < s.len() {
         let j = judge_sum(h, m, kind, item, s, at);
         match j {
-            SumJudged::Reject(r) => {
-                return Sums::Fault {
+            SumJudged::Refused(r) => {
+                return SumsEnded::Refused(Refusal {
                     number: r,
                     place: line,
-                };
+                });
             },
-            SumJudged::Admit {
+            SumJudged::Accepted {
                 kind: k,
                 item: i,
                 next: e,
@@ -215,5 +218,5 @@ pub fn judge_sums(h: Head, m: Limits, s: &[u8], from: usize, first: usize) -> Su
             },
         }
     }
-    Sums::Sound
+    SumsEnded::Sound
 }

@@ -7,9 +7,10 @@ use native.Mathlib.Numerals.{add-one}
 use native.Mathlib.Omega.{arith}
 use lib.ListN.{length, drop, set}
 use Rattle.package.proofs.TermSlices.{kept-length, kept-store}
+use Rattle.package.specs.Answer.{refused}
 use Rattle.package.specs.Held.{aboveOf, kept}
 use Rattle.package.specs.Names.{sumNames}
-use Rattle.package.specs.Terms.{TermLine, LineAbove, counted, refuse, accept, judgeTerm, refused2, ended2, block2}
+use Rattle.package.specs.Terms.{TermLine, LineAbove, counted, refusedBy, accept, judgeTerm, termsRead, block2}
 use Rattle.package.specs.declared.Head.{Head}
 use Rattle.package.specs.declared.Last.{Last}
 use Rattle.package.specs.declared.Limits.{Limits}
@@ -19,26 +20,26 @@ use Rattle.text.specs.Pieces.{lines, stop, part}
 use Rattle.text.specs.Word.{word}
 
 module _ (h : Head) (lim : Limits) (a : LineAbove) (ts : List TermLine) (n : ℕ) (s : List ℕ) (at e : ℕ) (q : e ≡ at + stop 10 (drop at s)) where
-  pub turn-missing : length s ≤ e → refused2 2 n ≡ block2 h lim a ts n (lines (drop at s))
+  pub turn-missing : length s ≤ e → refused 2 n ≡ block2 h lim a ts n (lines (drop at s))
   unfolding block2
   turn-missing z = rw (cut-end 10 s at e q z)
 
   module _ (z : e < length s) where
-    pub turn-names : same (part s at (e - at)) sumNames ≡ true → ended2 ts (suc n) (lines (drop (e + 1) s)) ≡ block2 h lim a ts n (lines (drop at s))
+    pub turn-names : same (part s at (e - at)) sumNames ≡ true → termsRead h ts (suc n) (lines (drop (e + 1) s)) ≡ block2 h lim a ts n (lines (drop at s))
     unfolding block2
     turn-names m = rw (cut-more 10 s at e q z, block2, m)
 
     module _ (m : same (part s at (e - at)) sumNames ≡ false) where
-      pub turn-refuse : (r : ℕ) → judgeTerm h lim a (length ts) (part s at (e - at)) ≡ refuse r → refused2 r n ≡ block2 h lim a ts n (lines (drop at s))
+      pub turn-refused : (r : ℕ) → judgeTerm h lim a (length ts) (part s at (e - at)) ≡ refusedBy r → refused r n ≡ block2 h lim a ts n (lines (drop at s))
       unfolding block2
-      turn-refuse r j = rw (cut-more 10 s at e q z, block2, m, j)
+      turn-refused r j = rw (cut-more 10 s at e q z, block2, m, j)
 
-      pub turn-accept : (k i c : ℕ) (w : List ℕ) → judgeTerm h lim a (length ts) (part s at (e - at)) ≡ accept k i c w
+      pub turn-accepted : (k i c : ℕ) (w : List ℕ) → judgeTerm h lim a (length ts) (part s at (e - at)) ≡ accept k i c w
           → block2 h lim (record { kind = k; item = i; word = w; count = counted a k i })
           (ts ++ (record { kind = k; item = i; coef = c; word = w } ∷ [])) (suc n) (lines (drop (e + 1) s))
           ≡ block2 h lim a ts n (lines (drop at s))
       unfolding block2
-      turn-accept k i c w j = rw (cut-more 10 s at e q z, block2, m, j)
+      turn-accepted k i c w j = rw (cut-more 10 s at e q z, block2, m, j)
 
 -- A turn that stores a term: the arrays after it are ks′, .., the line's end is e.
 module _ (h : Head) (lim : Limits) (s : List ℕ) (last : Last) (ks is cs os ls : List ℕ) (n line at e : ℕ) (k i c o l : ℕ) (ks′ is′ cs′ os′ ls′ : List ℕ)
@@ -55,4 +56,4 @@ module _ (h : Head) (lim : Limits) (s : List ℕ) (last : Last) (ks is cs os ls 
   turn-again q w t j m r =
       let j′ : judgeTerm h lim (aboveOf s last) (length (kept s ks is cs os ls n)) (part s at (e - at)) ≡ accept k i c (part s o l) = rw
       (kept-length s ks is cs os ls n) j in
-      rw (stored, add-one line, r) (turn-accept h lim (aboveOf s last) (kept s ks is cs os ls n) line s at e q w t k i c (part s o l) j′)
+      rw (stored, add-one line, r) (turn-accepted h lim (aboveOf s last) (kept s ks is cs os ls n) line s at e q w t k i c (part s o l) j′)

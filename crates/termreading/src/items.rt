@@ -1,6 +1,7 @@
 // Where the terms of each item start: items are numbered G 1 to gens, then B 1 to basis.
 
 use package::Head;
+use package::TERM_G;
 ghost use mathlib.Core.Path.{_≡_};
 ghost use Prim.Native.Nat.{ℕ, _+_, _<_, _≤_};
 ghost use lib.ListN.{length, getD, drop};
@@ -11,7 +12,7 @@ ghost use Rattle.package.specs.Held.{slotsHeld, Marked};
 fn slot_of(h: Head, kind: u32, item: u32) -> usize
     ensures { λ r. ⌜ r ≡ slot h kind item ⌝ }
 {
-    if kind == 1 {
+    if kind == TERM_G {
         return item as usize;
     }
     h.gens as usize + item as usize

@@ -5,12 +5,15 @@ use linetests::bounds::coef_fits;
 use linetests::bounds::word_fits;
 use linetests::names::is_sum_names;
 use numberreading::number::inner_number;
-use package::Ended;
 use package::Head;
 use package::Last;
 use package::Limits;
+use package::Refusal;
+use package::TERM_G;
 use package::TermJudged;
 use package::TermRead;
+use package::TermsAt;
+use package::TermsEnded;
 use text::NumAt;
 use text::WordLen;
 use text::bytes::find;
@@ -23,10 +26,10 @@ ghost use Prim.Native.Nat.{ℕ, _+_, _-_, _<_, _≤_};
 ghost use lib.ListN.{length, drop, set};
 ghost use Rattle.text.specs.Pieces.{lines, fields, part};
 ghost use Rattle.package.specs.Terms.{term, termForm, itemsOf, termFits, start, follows, counted, judged, judgeTerm, block2};
-ghost use Rattle.package.specs.Held.{seenTerm, reach, seenJudged, reachJudged, aboveOf, seen2, countOf, Inside, spotOf, lineOf};
+ghost use Rattle.package.specs.Held.{seenTerm, reach, seenJudged, reachJudged, aboveOf, seenTerms, TermsHeld};
 
 // A term line: kind item coef word.
-pub fn read_term(l: &[u8]) -> TermRead
+pub fn read_term_line(l: &[u8]) -> TermRead
     ensures { λ r. ⌜ seenTerm (now (l .entry)) r ≡ termForm (fields (now (l .entry))) ⌝ }
     ensures { λ r. ⌜ reach r ≤ length (now (l .entry)) ⌝ }
 {
@@ -67,7 +70,7 @@ pub fn read_term(l: &[u8]) -> TermRead
 fn items_of(h: Head, kind: u32) -> u32
     ensures { λ r. ⌜ r ≡ itemsOf h kind ⌝ }
 {
-    if kind == 1 {
+    if kind == TERM_G {
         return h.gens;
     }
     h.basis
@@ -139,16 +142,16 @@ fn judge_read(
 {
     let e = start + len;
     if !term_fits(h, m, kind, item, coef, &s[start..e]) {
-        return TermJudged::Refuse(5);
+        return TermJudged::Refused(5);
     }
     if !term_follows(s, last, kind, item, &s[start..e]) {
-        return TermJudged::Refuse(6);
+        return TermJudged::Refused(6);
     }
     if m.terms < term_count(last, kind, item) {
-        return TermJudged::Refuse(7);
+        return TermJudged::Refused(7);
     }
     if total < 1024 {
-        return TermJudged::Accept {
+        return TermJudged::Accepted {
             kind: kind,
             item: item,
             coef: coef,
@@ -156,7 +159,7 @@ fn judge_read(
             len: len,
         };
     }
-    TermJudged::Refuse(7)
+    TermJudged::Refused(7)
 }
 
 // The line s[at..e] of block 2: refusals 2, 5, 6, 7.
@@ -176,9 +179,9 @@ pub fn judge_term(
     ensures { λ r. ⌜ seenJudged (now (s .entry)) r ≡ judgeTerm h m (aboveOf (now (s .entry)) last) total (part (now (s .entry)) at (e - at)) ⌝ }
     ensures { λ r. ⌜ reachJudged r ≤ length (now (s .entry)) ⌝ }
 {
-    let t = read_term(&s[at..e]);
+    let t = read_term_line(&s[at..e]);
     match t {
-        TermRead::Misshapen => TermJudged::Refuse(2),
+        TermRead::Misshapen => TermJudged::Refused(2),
         TermRead::Shaped {
             kind,
             item,
@@ -190,7 +193,7 @@ pub fn judge_term(
 }
 
 // Stores a term at the place n of the five slices.
-fn store(
+fn store_term(
     kinds: &mut [u32],
     items: &mut [u32],
     coefs: &mut [u32],
@@ -217,7 +220,8 @@ fn store(
     lens[n] = len;
 }
 
-// Block 2, from the line that starts at the place from on, which has the number first.
+// Block 2, from the line that starts at the place from on, which has the number first. The five slices hold its terms;
+// where it is refused they are scratch: they hold the terms above the refused line, and nothing is promised of them.
 pub fn read_terms(
     h: Head,
     m: Limits,
@@ -229,13 +233,12 @@ pub fn read_terms(
     coefs: &mut [u32],
     starts: &mut [usize],
     lens: &mut [usize],
-) -> Ended
+) -> TermsEnded
     requires { ⌜ (h .letters ≤ 26) × (m .terms ≤ 65536) ⌝ }
     requires { ⌜ (from ≤ length (now s)) × (first ≤ from + 4) × (length (now s) ≤ 65536) ⌝ }
     requires { ⌜ (length (now kinds) ≡ 1024) × (length (now items) ≡ 1024) × (length (now coefs) ≡ 1024) × (length (now starts) ≡ 1024) × (length (now lens) ≡ 1024) ⌝ }
-    ensures { λ r. ⌜ seen2 (now (s .entry)) (now (kinds .exit)) (now (items .exit)) (now (coefs .exit)) (now (starts .exit)) (now (lens .exit)) r ≡ block2 h m start [] first (lines (drop from (now (s .entry)))) ⌝ }
-    ensures { λ r. ⌜ (countOf r ≤ 1024) × Inside (now (s .entry)) (now (starts .exit)) (now (lens .exit)) (countOf r) ⌝ }
-    ensures { λ r. ⌜ (spotOf r ≤ length (now (s .entry))) × (lineOf r ≤ spotOf r + 4) ⌝ }
+    ensures { λ r. ⌜ seenTerms h (now (s .entry)) (now (kinds .exit)) (now (items .exit)) (now (coefs .exit)) (now (starts .exit)) (now (lens .exit)) r ≡ block2 h m start [] first (lines (drop from (now (s .entry)))) ⌝ }
+    ensures { λ r. ⌜ TermsHeld (now (s .entry)) (now (starts .exit)) (now (lens .exit)) r ⌝ }
 {
     let mut last = Last {
         kind: 0,
@@ -250,27 +253,29 @@ pub fn read_terms(
     loop {
         let e = find(s, at, 10);
         if s.len() <= e {
-            return Ended::Refused {
+            return TermsEnded::Refused(Refusal {
                 number: 2,
                 place: line,
-            };
+            });
         }
         if is_sum_names(&s[at..e]) {
-            return Ended::Names {
+            let next = e + 1;
+            let below = line + 1;
+            return TermsEnded::Read(TermsAt {
                 terms: n,
-                at: e + 1,
-                line: line + 1,
-            };
+                at: next,
+                line: below,
+            });
         }
         let j = judge_term(h, m, last, n, s, at, e);
         match j {
-            TermJudged::Refuse(r) => {
-                return Ended::Refused {
+            TermJudged::Refused(r) => {
+                return TermsEnded::Refused(Refusal {
                     number: r,
                     place: line,
-                };
+                });
             },
-            TermJudged::Accept {
+            TermJudged::Accepted {
                 kind,
                 item,
                 coef,
@@ -278,7 +283,7 @@ pub fn read_terms(
                 len,
             } => {
                 let count = term_count(last, kind, item);
-                store(
+                store_term(
                     kinds,
                     items,
                     coefs,

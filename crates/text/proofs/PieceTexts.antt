@@ -1,5 +1,5 @@
 -- Texts and their pieces: a text is the pieces that it is cut into put together again, and pieces that hold no byte b are what their text is cut into.
-use mathlib.Core.Path.{_≡_, refl, sym, ap, subst, _∙_}
+use mathlib.Core.Path.{_≡_, refl, ap, subst, _∙_}
 use mathlib.Core.Bool.{Bool, true, false}
 use mathlib.Core.List.{List, [], _∷_, _++_}
 use Prim.Native.Nat.{ℕ}
@@ -54,10 +54,6 @@ module _ (b : ℕ) where
   unfolding joined
   pieces-joined (clear w) = pieces-last w
   pieces-joined (clears {l} {ps} w r) = pieces-first w (joined b ps) ∙ ap (piece l) (pieces-joined r)
-
--- So two lists of pieces without b that are written alike are the same.
-pub joined-injective : (b : ℕ) {ps qs : Pieces} → Clear b ps → Clear b qs → joined b ps ≡ joined b qs → ps ≡ qs
-joined-injective b c d e = sym (pieces-joined b c) ∙ ap (pieces b) e ∙ pieces-joined b d
 
 -- Fields of a line that was written from fields without a space; lines of a text that was written from lines without byte 10.
 pub fields-written : {fs : Pieces} → Clear 32 fs → fields (writeFields fs) ≡ fs

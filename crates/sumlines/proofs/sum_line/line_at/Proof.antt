@@ -3,7 +3,7 @@ use mathlib.Core.Path.{sym, _∙_}
 use mathlib.Core.Bool.{true≢false}
 use borrow.Author.Needs.{needs}
 use denote.Ref.{now}
-use Rattle.package.proofs.SumLines.{seen-shapeless, seen-sum, sum-inside}
+use Rattle.package.proofs.SumLines.{seen-no-sum, seen-sum, sum-inside}
 use Rattle.sumlines.proofs.LineReading.{line-none, line-sum}
 use Rattle.sumlines.proofs.sum_line.line_at.Statement.{statement}
 use Rattle.sumlines.proofs.sum_line.line_at.Tie as tie
@@ -25,7 +25,7 @@ returns c =
     let e = c .no-line .ensures in
     let c3 = c .before .before .before in
     let a = c3 .before .before .args in
-    (line-none (now (a .bytes)) (a .at) (seen-shapeless _ _ _ (c .before .enum-told .given .1) (c3 .read-sum .ensures .0)) _ e, λ x. absurd (true≢false (sym x ∙ e)))
+    (line-none (now (a .bytes)) (a .at) (seen-no-sum _ _ _ (c .before .enum-told .given .1) (c3 .read-sum .ensures .0)) _ e, λ x. absurd (true≢false (sym x ∙ e)))
 
 cast-t13 : tie.Need-cast-t13
 cast-t13 c = search needs

@@ -4,7 +4,7 @@ use native.Mathlib.Omega.{arith}
 use borrow.Author.Tests.{not-true, not-false}
 use borrow.Author.Needs.{needs}
 use denote.Ref.{now}
-use Rattle.package.proofs.SumLines.{seen-shapeless, seen-sum, sum-inside}
+use Rattle.package.proofs.SumLines.{seen-no-sum, seen-sum, sum-inside}
 use Rattle.package.specs.Held.{seenSumJudged, JudgedInside}
 use Rattle.lists.proofs.Parts.{part-end}
 use Rattle.sumreading.proofs.SumTurns.{sums-none, sums-5, sums-6, sums-on}
@@ -28,7 +28,7 @@ returns c =
     let a = c4 .args in (
       λ n.
           sums-none (a .h) (a .m) (a .last-kind) (a .last-item) n (now (a .s)) (a .at) (c4 .pre .1)
-          (seen-shapeless _ _ _ (c .enum-told .given .1) (c2 .read-sum .ensures .0)),
+          (seen-no-sum _ _ _ (c .enum-told .given .1) (c2 .read-sum .ensures .0)),
       tt,
     )
 

@@ -7,12 +7,12 @@ use native.Mathlib.Omega.{arith}
 use lib.ListN.{length, drop}
 use borrow.Author.Needs.{needs}
 use denote.Ref.{now}
-use Rattle.package.proofs.TermJudging.{counted-word, seen-refuse, seen-accept, reach-judged, judged-room}
+use Rattle.package.proofs.TermJudging.{counted-word, seen-refused, seen-accepted, reach-judged, judged-room}
 use Rattle.package.proofs.TermSlices.{kept-length, inside-store}
-use Rattle.package.specs.Held.{aboveOf, kept, seen2, spotOf, lineOf, countOf, Inside}
+use Rattle.package.specs.Held.{aboveOf, kept, seenTerms, Inside, TermsHeld}
 use Rattle.package.specs.Terms.{start, block2}
 use Rattle.text.specs.Pieces.{lines}
-use Rattle.termreading.proofs.TermTurns.{turn-missing, turn-names, turn-refuse, turn-again}
+use Rattle.termreading.proofs.TermTurns.{turn-missing, turn-names, turn-refused, turn-again}
 use Rattle.termreading.proofs.term_lines.read_terms.Statement.{statement}
 use Rattle.termreading.proofs.term_lines.read_terms.Tie as tie
 
@@ -70,14 +70,14 @@ same-length-5 : tie.Need-same-length-5 Inv-loop μ-loop
 same-length-5 c = search needs
 
 returns : tie.Need-returns Inv-loop μ-loop
-unfolding seen2 spotOf lineOf countOf
+unfolding seenTerms TermsHeld
 returns c =
     let x = c .before .before .loop in
     let a = c .before .before .before .before .before .before .before .before .before .args in
     let s = now (a .s) in (
       turn-missing (a .h) (a .m) (aboveOf s (x .last)) (kept s (x .kinds) (x .items) (x .coefs) (x .starts) (x .lens) (x .n)) (x .line) s (x .at) _
           (c .before .find .ensures .0) (c .if1 .taken) ∙ x .inv .10,
-      ((omega arith, λ i z. absurd (omega arith)), (omega arith, omega arith)),
+      tt,
     )
 
 sub-is-sum-names : tie.Need-sub-is-sum-names Inv-loop μ-loop
@@ -92,11 +92,11 @@ part-is-sum-names-end c = search needs
 is-sum-names-requires : tie.Need-is-sum-names-requires Inv-loop μ-loop
 is-sum-names-requires c κs = search needs
 
-add-t30 : tie.Need-add-t30 Inv-loop μ-loop
-add-t30 c = search needs
+add-next : tie.Need-add-next Inv-loop μ-loop
+add-next c = search needs
 
-add-t31 : tie.Need-add-t31 Inv-loop μ-loop
-add-t31 c = search needs
+add-below : tie.Need-add-below Inv-loop μ-loop
+add-below c = search needs
 
 same-length-6 : tie.Need-same-length-6 Inv-loop μ-loop
 same-length-6 c = search needs
@@ -114,7 +114,7 @@ same-length-10 : tie.Need-same-length-10 Inv-loop μ-loop
 same-length-10 c = search needs
 
 returns-2 : tie.Need-returns-2 Inv-loop μ-loop
-unfolding seen2 spotOf lineOf countOf
+unfolding seenTerms TermsHeld
 returns-2 c =
     let f = c .before .before .before .before in
     let x = f .before .loop in
@@ -122,7 +122,7 @@ returns-2 c =
     let s = now (a .s) in (
       rw add-one (turn-names (a .h) (a .m) (aboveOf s (x .last)) (kept s (x .kinds) (x .items) (x .coefs) (x .starts) (x .lens) (x .n)) (x .line) s
           (x .at) _ (f .find .ensures .0) (c .before .before .before .if1 .left) (sym (c .before .is-sum-names .ensures) ∙ c .if2 .taken) ∙ x .inv .10),
-      ((x .inv .2 .0, x .inv .11), (omega (arith, c .before .before .before .if1 .left), omega (arith, x .inv .1, f .find .ensures .1 .1))),
+      ((x .inv .2 .0, x .inv .11), omega (arith, c .before .before .before .if1 .left), omega (arith, x .inv .1, f .find .ensures .1 .1)),
     )
 
 judge-term-requires : tie.Need-judge-term-requires Inv-loop μ-loop
@@ -147,18 +147,18 @@ same-length-15 : tie.Need-same-length-15 Inv-loop μ-loop
 same-length-15 c = search needs
 
 returns-3 : tie.Need-returns-3 Inv-loop μ-loop
-unfolding seen2 spotOf lineOf countOf
+unfolding seenTerms TermsHeld
 returns-3 c =
     let t = c .before .before .before in
     let f = t .before .before .before .before .before in
     let x = f .before .loop in
     let a = f .before .before .before .before .before .before .before .before .args in
     let s = now (a .s) in
-    let j = seen-refuse s _ _ _ (c .before .j .given .1) (t .judge-term .ensures .0) in
+    let j = seen-refused s _ _ _ (c .before .j .given .1) (t .judge-term .ensures .0) in
     let k = rw (← kept-length s (x .kinds) (x .items) (x .coefs) (x .starts) (x .lens) (x .n)) at j in (
-      turn-refuse (a .h) (a .m) (aboveOf s (x .last)) (kept s (x .kinds) (x .items) (x .coefs) (x .starts) (x .lens) (x .n)) (x .line) s (x .at) _
+      turn-refused (a .h) (a .m) (aboveOf s (x .last)) (kept s (x .kinds) (x .items) (x .coefs) (x .starts) (x .lens) (x .n)) (x .line) s (x .at) _
           (f .find .ensures .0) (t .before .before .before .before .if1 .left) (sym (t .before .before .is-sum-names .ensures) ∙ t .before .if2 .left) _ k ∙ x .inv .10,
-      ((omega arith, λ i z. absurd (omega arith)), (omega arith, omega arith)),
+      tt,
     )
 
 enum-known-j-2 : tie.Need-enum-known-j-2 Inv-loop μ-loop
@@ -170,13 +170,13 @@ term-count-requires c κs =
     let x = c9 .loop in
     omega (arith, x .inv .8, x .inv .2 .2)
 
-store-requires : tie.Need-store-requires Inv-loop μ-loop
-store-requires c κs =
+store-term-requires : tie.Need-store-term-requires Inv-loop μ-loop
+store-term-requires c κs =
     let t = c .before .before .before .before .before .before .before .before .before in
     let x = t .before .before .before .before .before .before .loop in
     let a = t .before .before .before .before .before .before .before .before .before .before .before .before .before .args in
     let s = now (a .s) in
-    let j = seen-accept s _ _ _ _ _ _ _ (c .before .before .before .before .before .before .before .j2 .given .1) (t .judge-term .ensures .0) in
+    let j = seen-accepted s _ _ _ _ _ _ _ (c .before .before .before .before .before .before .before .j2 .given .1) (t .judge-term .ensures .0) in
     let r = judged-room (a .h) (a .m) (aboveOf s (x .last)) (x .n) _ _ _ _ _ j in
     let b : x .n < 1024 = r .0 in
     (omega (arith, x .inv .3), omega (arith, x .inv .4), omega (arith, x .inv .5), omega (arith, x .inv .6), omega (arith, x .inv .7))
@@ -220,19 +220,19 @@ loop-again c =
     let a = f .before .before .before .before .before .before .before .before .args in
     let s = now (a .s) in
     let g = tc .before .before .j2 .given .1 in
-    let j = seen-accept s _ _ _ _ _ _ _ g (t .judge-term .ensures .0) in
+    let j = seen-accepted s _ _ _ _ _ _ _ g (t .judge-term .ensures .0) in
     let r = judged-room (a .h) (a .m) (aboveOf s (x .last)) (x .n) _ _ _ _ _ j in
     let b = reach-judged _ _ _ _ _ _ _ g (t .judge-term .ensures .1) in
     let m = tc .term-count .ensures ∙ counted-word s (x .last) _ _ in
-    let e = st .store .ensures in (
+    let e = st .store-term .ensures in (
       omega (arith, t .before .before .before .before .if1 .left),
       omega (arith, x .inv .1, f .find .ensures .1 .1),
       (omega (arith, r .0), x .inv .2 .1, x .inv .2 .2),
-      st .store .kept .0 ∙ x .inv .3,
-      st .store .kept .1 .0 ∙ x .inv .4,
-      st .store .kept .1 .1 .0 ∙ x .inv .5,
-      st .store .kept .1 .1 .1 .0 ∙ x .inv .6,
-      st .store .kept .1 .1 .1 .1 .0 ∙ x .inv .7,
+      st .store-term .kept .0 ∙ x .inv .3,
+      st .store-term .kept .1 .0 ∙ x .inv .4,
+      st .store-term .kept .1 .1 .0 ∙ x .inv .5,
+      st .store-term .kept .1 .1 .1 .0 ∙ x .inv .6,
+      st .store-term .kept .1 .1 .1 .1 .0 ∙ x .inv .7,
       omega (arith, m, r .1),
       b,
       turn-again (a .h) (a .m) s (x .last) (x .kinds) (x .items) (x .coefs) (x .starts) (x .lens) (x .n) (x .line) (x .at) _ _ _ _ _ _ _ _ _ _ _
@@ -260,8 +260,8 @@ read-terms-spec =
     part-is-sum-names-start
     part-is-sum-names-end
     is-sum-names-requires
-    add-t30
-    add-t31
+    add-next
+    add-below
     same-length-6
     same-length-7
     same-length-8
@@ -278,7 +278,7 @@ read-terms-spec =
     returns-3
     enum-known-j-2
     term-count-requires
-    store-requires
+    store-term-requires
     add-n
     add-at
     add-line

@@ -1,17 +1,17 @@
--- `judge_sums`: the lines that are left, below the kind and item of the last, are judged as all are.
+-- `judge_sum_block`: the lines that are left, below the kind and item of the last, are judged as all are.
 use mathlib.Core.Path.{_≡_, refl, _∙_}
 use Prim.Native.Nat.{_+_, _-_, _≤_}
 use native.Mathlib.Numerals.{add-one}
 use native.Mathlib.Omega.{arith}
 use lib.ListN.{length, drop}
 use borrow.Author.Needs.{needs}
-use Rattle.package.proofs.SumLines.{seen-reject, seen-admit, judged-inside}
-use Rattle.package.specs.Held.{seen3}
+use Rattle.package.proofs.SumLines.{seen-sum-refused, seen-sum-accepted, judged-inside}
+use Rattle.package.specs.Held.{seenSums}
 use Rattle.package.specs.Sums.{block3}
 use Rattle.text.specs.Pieces.{lines}
 use Rattle.sumreading.proofs.SumTurns.{sums-end}
-use Rattle.sumreading.proofs.sum_lines.judge_sums.Statement.{statement}
-use Rattle.sumreading.proofs.sum_lines.judge_sums.Tie as tie
+use Rattle.sumreading.proofs.sum_lines.judge_sum_block.Statement.{statement}
+use Rattle.sumreading.proofs.sum_lines.judge_sum_block.Tie as tie
 
 abbrev Inv-loop : tie.InvT-loop
 Inv-loop h m s from first kind₀ item₀ at₀ line₀ kind item at line = (at ≤ length s) × (line ≤ at + 4) × (length s ≤ 65536) ×
@@ -30,11 +30,11 @@ enum-known-j : tie.Need-enum-known-j Inv-loop μ-loop
 enum-known-j c = search needs
 
 returns : tie.Need-returns Inv-loop μ-loop
-unfolding seen3
+unfolding seenSums
 returns c =
     let c3 = c .before .before .before in
     let x = c3 .before .before .loop in
-    seen-reject _ _ _ _ _ _ _ (c .before .j .given .1) (c3 .judge-sum .ensures .0 (x .line)) ∙ x .inv .3
+    seen-sum-refused _ _ _ _ _ _ _ (c .before .j .given .1) (c3 .judge-sum .ensures .0 (x .line)) ∙ x .inv .3
 
 enum-known-j-2 : tie.Need-enum-known-j-2 Inv-loop μ-loop
 enum-known-j-2 c = search needs
@@ -58,19 +58,19 @@ loop-again c =
       j .1,
       omega (arith, j .0, x .inv .1),
       x .inv .2,
-      rw l (seen-admit _ _ _ _ _ _ _ _ _ g (c3 .judge-sum .ensures .0 (x .line))) ∙ x .inv .3,
+      rw l (seen-sum-accepted _ _ _ _ _ _ _ _ _ g (c3 .judge-sum .ensures .0 (x .line))) ∙ x .inv .3,
     )
 
 returns-2 : tie.Need-returns-2 Inv-loop μ-loop
-unfolding seen3
+unfolding seenSums
 returns-2 c =
     let c3 = c .before .before .before in
     let x = c .before .loop in
     let a = c3 .args in
     sums-end (a .h) (a .m) _ _ (x .line) _ (x .at) (c .loop-test .left) ∙ x .inv .3
 
-pub judge-sums-spec : {M : Type 1} → statement M
-judge-sums-spec =
+pub judge-sum-block-spec : {M : Type 1} → statement M
+judge-sum-block-spec =
     tie.close
     (tie.spec
     Inv-loop

@@ -1,8 +1,8 @@
--- `store` sets one place of each slice.
+-- `store_term` sets one place of each slice.
 use mathlib.Core.Path.{refl}
 use borrow.Author.Needs.{needs}
-use Rattle.termreading.proofs.term_lines.store.Statement.{statement}
-use Rattle.termreading.proofs.term_lines.store.Tie as tie
+use Rattle.termreading.proofs.term_lines.store_term.Statement.{statement}
+use Rattle.termreading.proofs.term_lines.store_term.Tie as tie
 
 mul-kinds : tie.Need-mul-kinds
 mul-kinds c = search needs
@@ -52,8 +52,8 @@ same-length-5 c = search needs
 returns : tie.Need-returns
 returns c = (refl, (refl, (refl, (refl, refl))))
 
-pub store-spec : {M : Type 1} → statement M
-store-spec =
+pub store-term-spec : {M : Type 1} → statement M
+store-term-spec =
     tie.close
     (tie.spec
     mul-kinds

@@ -1,11 +1,11 @@
--- `read_term` reads what `termForm` gives, field by field.
+-- `read_term_line` reads what `termForm` gives, field by field.
 use native.Mathlib.Omega.{arith}
 use borrow.Author.Needs.{needs}
 use Rattle.package.proofs.TermLines.{form-kind, form-item, form-coef, form-word, form-term}
 use Rattle.package.specs.Held.{seenTerm, reach}
 use Rattle.fieldreading.proofs.FieldReading.{seen-none, seen-some, next-le, seen-no-word, seen-word, len-le}
-use Rattle.termreading.proofs.term_lines.read_term.Statement.{statement}
-use Rattle.termreading.proofs.term_lines.read_term.Tie as tie
+use Rattle.termreading.proofs.term_lines.read_term_line.Statement.{statement}
+use Rattle.termreading.proofs.term_lines.read_term_line.Tie as tie
 
 slice-aggregate-inner-rank : tie.Need-slice-aggregate-inner-rank
 slice-aggregate-inner-rank c = search needs
@@ -109,8 +109,8 @@ returns-5 c =
       len-le _ _ _ _ (c .before .len .given .1) (c3 .last-word .ensures .1),
     )
 
-pub read-term-spec : {M : Type 1} → statement M
-read-term-spec =
+pub read-term-line-spec : {M : Type 1} → statement M
+read-term-line-spec =
     tie.close
     (tie.spec
     slice-aggregate-inner-rank
