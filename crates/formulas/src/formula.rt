@@ -166,7 +166,7 @@ fn read_rows(
 }
 
 // A formula under the prime p, with so many letters in use: refusal 16 with its line, or the number of its terms, which the three slices hold.
-// Where it is refused they are scratch: they hold the terms above the refused line, and nothing is promised of them.
+// Where it is refused they are scratch: nothing is promised of what they hold.
 pub fn read_formula(
     s: &[u8],
     p: u32,

@@ -220,8 +220,8 @@ fn store_term(
     lens[n] = len;
 }
 
-// Block 2, from the line that starts at the place from on, which has the number first. The five slices hold its terms;
-// where it is refused they are scratch: they hold the terms above the refused line, and nothing is promised of them.
+// Block 2, from the line that starts at the place from on, which has the number first. The five slices hold its terms.
+// Where it is refused they are scratch: nothing is promised of what they hold.
 pub fn read_terms(
     h: Head,
     m: Limits,

@@ -89,8 +89,8 @@ list-basis-requires c κs =
 returns : tie.Need-returns
 unfolding seenAll countAll gensAll basisAll FirstsHeld
 returns c =
-    let t = c .before .before .before .before .before .before .before .before .before .before .read-package .ensures in
-    let g = c .before .before .r .given .1 in
+    let t = c .before .before .before .before .before .before .before .before .before .before .before .read-package .ensures in
+    let g = c .before .before .before .r .given .1 in
     let e = rw g at (t .0) in
     (c .refusal .ensures ∙ sym (unread-listed _ _ _ _ e), sym (unread-kept _ _ _ _ e))
 
