@@ -1,7 +1,7 @@
 -- The check: the first refusal of 8 to 15 in document 01's order, or none.
-use mathlib.Core.Bool.{Bool, true, false, not, _&&_}
+use mathlib.Core.Bool.{Bool, true, false}
 use mathlib.Core.List.{List, [], _∷_}
-use Prim.Native.Nat.{ℕ, zero, suc}
+use Prim.Native.Nat.{ℕ, suc}
 use lib.Dec.{eqb, ltb}
 use lib.ListN.{length}
 use Rattle.field.specs.Field.{Operations, fieldOf}
@@ -13,7 +13,7 @@ use Rattle.words.specs.Place.{leftmost}
 use Rattle.algebra.specs.Poly.{Poly}
 use Rattle.algebra.specs.Written.{written}
 use Rattle.algebra.specs.Ideal.{Family, family, Line}
-use Rattle.algebra.specs.Groebner.{lead, leadCoef, top}
+use Rattle.algebra.specs.Groebner.{top}
 use Rattle.algebra.specs.Steps.{takeAway}
 use Rattle.overlaps.specs.Overlaps as O
 use Rattle.overlaps.specs.Overlaps.{leads, overlaps, overlapWord, difference}

@@ -11,6 +11,7 @@ ghost use lib.ListN.{length, drop};
 ghost use Rattle.field.specs.Field.{fieldOf};
 ghost use Rattle.words.specs.Order.{wordOrder};
 ghost use Rattle.overlaps.specs.Overlaps.{leads, overlaps};
+ghost use Rattle.package.specs.Names.{sumG};
 ghost use Rattle.acceptance.specs.Check.{sides};
 ghost use Rattle.sumlines.specs.Heads.{HeadsOf};
 ghost use Rattle.sumlines.specs.Lines.{sumsAt};
@@ -42,7 +43,7 @@ pub fn judge_relations(
 ) -> Checked
     requires { ⌜ PackageLies h (now coefs) (now starts) (now lens) (now bytes) (now firsts) m ⌝ }
     requires { ⌜ HeadsOf (now coefs) (now starts) (now lens) (now bytes) (now firsts) (h .gens + 1) (h .basis) (now heads) (now headlens) ⌝ }
-    requires { ⌜ Reached h 2 1 (now bytes) at line ⌝ }
+    requires { ⌜ Reached h sumG 1 (now bytes) at line ⌝ }
     requires { ⌜ Ready (now c) (now l) (now w) (now o) (now buf) ⌝ }
     requires { ⌜ 72 ≤ length (now lap) ⌝ }
     ensures { λ r. ⌜

@@ -15,6 +15,7 @@ ghost use Rattle.words.specs.Order.{wordOrder};
 ghost use Rattle.words.specs.Laid.{laidWords, Laid};
 ghost use Rattle.overlaps.specs.Overlaps.{leads, overlaps};
 ghost use Rattle.overlaps.specs.Position.{Short};
+ghost use Rattle.package.specs.Names.{sumO};
 ghost use Rattle.acceptance.specs.Check.{itemsJudged};
 ghost use Rattle.sumlines.specs.Heads.{HeadsOf};
 ghost use Rattle.sumlines.specs.Lines.{sumsAt, Counted};
@@ -67,7 +68,7 @@ pub fn judge_laps(
 ) -> Checked
     requires { ⌜ PackageLies h (now coefs) (now starts) (now lens) (now bytes) (now firsts) m ⌝ }
     requires { ⌜ HeadsOf (now coefs) (now starts) (now lens) (now bytes) (now firsts) (h .gens + 1) (h .basis) (now heads) (now headlens) ⌝ }
-    requires { ⌜ Reached h 3 1 (now bytes) at line ⌝ }
+    requires { ⌜ Reached h sumO 1 (now bytes) at line ⌝ }
     requires { ⌜ Ready (now c) (now l) (now w) (now o) (now buf) ⌝ }
     requires { ⌜ 72 ≤ length (now lap) ⌝ }
     ensures { λ r. ⌜

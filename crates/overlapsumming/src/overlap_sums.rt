@@ -18,6 +18,7 @@ ghost use Rattle.words.specs.Order.{wordOrder};
 ghost use Rattle.algebra.specs.Ideal.{family};
 ghost use Rattle.overlaps.specs.Overlaps.{leads, overlaps};
 ghost use Rattle.working.specs.Family.{familyAt};
+ghost use Rattle.package.specs.Names.{sumO};
 ghost use Rattle.acceptance.specs.Check.{overlapsJudged};
 ghost use Rattle.sumlines.specs.Heads.{HeadsOf};
 ghost use Rattle.sumlines.specs.Lines.{sumsAt};
@@ -50,9 +51,9 @@ pub fn judge_overlaps(
     buf: &mut [u8],
     lap: &mut [u8],
 ) -> LapsAnswer
-    requires { ⌜ Sides h 3 (now coefs) (now starts) (now lens) (now bytes) (now firsts) base count base count m ⌝ }
+    requires { ⌜ Sides h sumO (now coefs) (now starts) (now lens) (now bytes) (now firsts) base count base count m ⌝ }
     requires { ⌜ HeadsOf (now coefs) (now starts) (now lens) (now bytes) (now firsts) base count (now heads) (now headlens) ⌝ }
-    requires { ⌜ Reached h 3 1 (now bytes) from first ⌝ }
+    requires { ⌜ Reached h sumO 1 (now bytes) from first ⌝ }
     requires { ⌜ Ready (now c) (now l) (now w) (now o) (now buf) ⌝ }
     requires { ⌜ (count ≤ 64) × (72 ≤ length (now lap)) ⌝ }
     ensures { λ r. ⌜

@@ -9,6 +9,7 @@ use native.Mathlib.Omega.{arith}
 use lib.Dec.{eqb, ltb}
 use lib.ListN.{length}
 use borrow.Author.Tests.{eq-eqb, ne-eqb, le-ltb}
+use Rattle.package.specs.Names.{sumO}
 use Rattle.package.specs.Sums.{SumLine, sumsOf}
 use Rattle.acceptance.specs.Check.{Verdict, refusal, fine, itemsJudged}
 use Rattle.sumlines.specs.declared.SumAt.{SumAt}
@@ -16,17 +17,17 @@ use Rattle.sumlines.specs.Told.{told}
 use Rattle.sumlines.specs.Lines.{sumsAt, heldLine, heldFrom, NumberedFrom, aboveCount, Counted, uncounted, counted, Inside}
 use Rattle.sumlines.proofs.ToldNumbers.{told-refused, told-fine}
 
-pub above-not : (count k i : ℕ) → k ≢ 3 → false ≡ aboveCount count k i
+pub above-not : (count k i : ℕ) → k ≢ sumO → false ≡ aboveCount count k i
 unfolding aboveCount
-above-not count k i n = rw (aboveCount, ne-eqb k 3 n)
+above-not count k i n = rw (aboveCount, ne-eqb k sumO n)
 
-pub above-test : (count k i : ℕ) → k ≡ 3 → ltb count i ≡ aboveCount count k i
+pub above-test : (count k i : ℕ) → k ≡ sumO → ltb count i ≡ aboveCount count k i
 unfolding aboveCount
-above-test count k i e = rw (aboveCount, eq-eqb k 3 e)
+above-test count k i e = rw (aboveCount, eq-eqb k sumO e)
 
 pub above-low : (count k i : ℕ) → i ≤ count → aboveCount count k i ≡ false
 unfolding aboveCount
-above-low count k i h = go (eqb k 3)
+above-low count k i h = go (eqb k sumO)
   where
     go : (t : Bool) → _≡_ {A = Bool} (elim t [ false ↦ false | true ↦ ltb count i ]) false
     go false = refl
@@ -43,9 +44,9 @@ counted-rest n s ss (counted e es) = es
 module _ (count : ℕ) (s : SumLine) (ss : List SumLine) where
   items-here : aboveCount count (s .kind) (s .item) ≡ true → itemsJudged count (s ∷ ss) ≡ refusal 15 (s .line)
   unfolding itemsJudged aboveCount
-  items-here = go (eqb (s .kind) 3) refl (ltb count (s .item)) refl
+  items-here = go (eqb (s .kind) sumO) refl (ltb count (s .item)) refl
     where
-      go : (t : Bool) → eqb (s .kind) 3 ≡ t → (u : Bool) → ltb count (s .item) ≡ u → _≡_ {A = Bool} (elim t [ false ↦ false | true ↦ u ]) true
+      go : (t : Bool) → eqb (s .kind) sumO ≡ t → (u : Bool) → ltb count (s .item) ≡ u → _≡_ {A = Bool} (elim t [ false ↦ false | true ↦ u ]) true
           → itemsJudged count (s ∷ ss) ≡ refusal 15 (s .line)
       go true x true y e = rw (itemsJudged, x, y)
       go true x false y e = let z : false ≡ true = e in cc
@@ -53,9 +54,9 @@ module _ (count : ℕ) (s : SumLine) (ss : List SumLine) where
 
   pub items-later : aboveCount count (s .kind) (s .item) ≡ false → itemsJudged count (s ∷ ss) ≡ itemsJudged count ss
   unfolding itemsJudged aboveCount
-  items-later = go (eqb (s .kind) 3) refl (ltb count (s .item)) refl
+  items-later = go (eqb (s .kind) sumO) refl (ltb count (s .item)) refl
     where
-      go : (t : Bool) → eqb (s .kind) 3 ≡ t → (u : Bool) → ltb count (s .item) ≡ u → _≡_ {A = Bool} (elim t [ false ↦ false | true ↦ u ]) false
+      go : (t : Bool) → eqb (s .kind) sumO ≡ t → (u : Bool) → ltb count (s .item) ≡ u → _≡_ {A = Bool} (elim t [ false ↦ false | true ↦ u ]) false
           → itemsJudged count (s ∷ ss) ≡ itemsJudged count ss
       go false x u y e = rw (itemsJudged, x)
       go true x false y e = rw (itemsJudged, x, y)

@@ -7,6 +7,7 @@ use lib.Dec.{eqb, ltb}
 use lib.ListN.{length, drop}
 use Rattle.text.specs.Pieces.{pieces, lines, part}
 use Rattle.algebra.specs.Ideal.{Line}
+use Rattle.package.specs.Names.{sumO}
 use Rattle.package.specs.Sums.{SumLine, sumsOf}
 use Rattle.sumlines.specs.declared.SumAt.{SumAt}
 
@@ -50,7 +51,7 @@ pub record Inside (bytes : List ℕ) (at : ℕ) (r : SumAt) : Type 0 where
 
 -- An O line whose item is above the overlap count.
 unfoldable pub aboveCount : ℕ → ℕ → ℕ → Bool
-aboveCount count k i = elim (eqb k 3) [ false ↦ false | true ↦ ltb count i ]
+aboveCount count k i = elim (eqb k sumO) [ false ↦ false | true ↦ ltb count i ]
 
 -- Lines have the numbers n, n + 1, ..
 pub data Counted : ℕ → List SumLine → Type 0 where
