@@ -1,5 +1,10 @@
 -- Rewriting with free choice of word, place and polynomial: every sequence of steps ends, and under a certified basis all ends from one polynomial
 -- are equal (source document 002, lemma 4.2.6 and theorem 4.3.4 (3); document 02, P12).
+-- Steps end: a step takes one word of the polynomial away and changes nothing above that word (`step-drops`), and no such fall goes on for ever
+-- (`drops-end`). That is shown by two inductions: on a word above all words of the polynomial (`under`), and for one first term t on what stands
+-- behind it (`behind`). What is below t ∷ x has only words below t's, or it begins with t and is below x behind it (`split`).
+-- The ends are equal: an end has no leading word inside (`end-reduced`), two ends differ by a sum over the basis (`steps-ideal`), and polynomials
+-- of which both hold are equal (`reduced-unique` in Uniqueness.antt).
 use mathlib.Core.Path.{_≡_, sym, _∙_, ap}
 use mathlib.Core.Logic.{_≢_, _⊎_, inl, inr}
 use mathlib.Core.List.{[], _∷_}

@@ -1,5 +1,8 @@
--- Two leading words that stand apart in a word: their two multiples are resolved. All products of a term of f, the word e, and a term of g are
--- summed by f's terms and by g's; the two sums are equal, and each is led by one of the two multiples.
+-- Two leading words that stand apart in a word: their two multiples are resolved (`resolved-apart`).
+-- The word is l × u × e × v × r, where u leads f and v leads g, both divided by their leading coefficients. All products of l, a term of f, e, a
+-- term of g, and r are summed by f's terms (`leftSum`) and by g's (`rightSum`); the two sums are equal (`sums-equal`). The first is
+-- l × u × e × g × r and lines for the lower terms of f (`left-led`, `left-value`), the second l × f × e × v × r and lines for the lower terms of g
+-- (`right-led`, `right-value`). So the two multiples differ by these lines, and each of them is below the word (`left-below`, `right-below`).
 use mathlib.Core.Path.{_≡_, refl, sym, _∙_}
 use mathlib.Core.List.{List, [], _∷_, _++_, append-assoc, append-nil}
 use Prim.Native.Nat.{ℕ}

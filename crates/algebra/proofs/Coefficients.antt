@@ -1,4 +1,9 @@
 -- Laws of coefficients: of sums, multiples and differences of formal sums.
+-- First words: whether two are the same is decided (`word-discrete`). Then: what holds of all words of f holds of all words of its multiples
+-- (`shift-words`, `scale-words`). Then the coefficient of a word: in f + g, c × f and f - g (`coeff-append`, `coeff-scale`, `coeff-sub`), where no
+-- term has the word (`coeff-none`), and that a word with a coefficient is the word of a term (`support`). At the end left × f × right: its
+-- coefficient at left × word × right is f's at the word (`coeff-shift`), other words have none, so equal polynomials have equal multiples
+-- (`shift-same`).
 use mathlib.Core.Path.{_≡_, refl, sym, _∙_, ap, ap₂}
 use mathlib.Core.Bool.{Bool, true, false, true≢false}
 use mathlib.Core.Logic.{_≢_, _⊎_, inl, inr}

@@ -1,6 +1,10 @@
 -- Where any two multiples of basis polynomials with the same leading word differ by lines below it, a sum over the basis is zero, or its greatest
--- word holds a leading word. By well-founded induction on the greatest word that the lines bring: lines at that word are gathered into one
--- multiple, and where its coefficient cancels, lines below it are left (source document 002, 3.6.1, from (h) to (d), with 4.3.4 (2) for (h)).
+-- word holds a leading word (`zero-or-inside`; source document 002, 3.6.1, from (h) to (d), with 4.3.4 (2) for (h)).
+-- By well-founded induction on the greatest word that the lines bring. One turn is `lower`: lines over the zero polynomial are left out (`clean`);
+-- a line is found that brings the greatest word m (`greatest`); all lines that bring m are gathered into one multiple of that line's polynomial,
+-- divided by its leading coefficient, and lines below m (`gather`; here the multiples with leading word m differ by lines below it). Where the
+-- coefficient of that multiple is not zero, m is the greatest word of the sum, and a leading word stands inside it. Where it is zero, only lines
+-- below m are left, and the next turn takes those (`descend`).
 use mathlib.Core.Path.{_≡_, refl, sym, _∙_, ap}
 use mathlib.Core.Logic.{_≢_, _⊎_, inl, inr}
 use mathlib.Core.List.{List, [], _∷_, _++_, append-nil}

@@ -1,13 +1,15 @@
--- Adding terms to a written form, one after the other: the coefficients add up, the result is in written form, and it is at most so long.
+-- Adding terms to a written form, one after the other: the coefficients add up, and the result is in written form.
+-- In this order: `put`, one term before others, dropped where its coefficient is zero; `insert`, one term at its place, with a law for each place that
+-- it can take; `plus`, the terms of a formal sum one after the other; `written`, the same from nothing. Of each it is shown that its words are
+-- words of what is added (`plus-words`), that the coefficients add up (`plus-coeff`, `written-coeff`), and that it is in written form
+-- (`plus-written`, `written-written`).
 use mathlib.Core.Path.{_≡_, refl, sym, _∙_, ap}
 use mathlib.Core.Bool.{Bool, true, false}
 use mathlib.Core.Logic.{_≢_}
 use mathlib.Core.List.{List, [], _∷_, _++_}
-use Prim.Native.Nat.{ℕ, suc, _+_, _≤_}
+use Prim.Native.Nat.{ℕ}
 use native.Mathlib.Decide.{ℕ-discrete}
-use native.Mathlib.Omega.{arith}
 use lib.Dec.{eqb}
-use lib.ListN.{length}
 use borrow.Author.Tests.{eq-eqb, ne-eqb}
 use Rattle.field.specs.Field.{Operations, Field}
 use Rattle.field.proofs.Derived.{red-zero, zero-add, red-add-left, add-left-comm}
@@ -38,13 +40,6 @@ module _ (K : Operations) where
       go (yes e) = rw (put-zero c w f e) ps
       go (no e) = rw (put-some c w f e) (_also_ {x = record { coef = K .red c; word = w }} p ps)
 
-  pub put-length : (c : ℕ) (w : Word) (f : Poly) → length (put K c w f) ≤ suc (length f)
-  put-length c w f = go (ℕ-discrete (K .red c) 0)
-    where
-      go : Dec (K .red c ≡ 0) → length (put K c w f) ≤ suc (length f)
-      go (yes e) = rw (put-zero c w f e) (omega arith)
-      go (no e) = rw (put-some c w f e) (omega arith)
-
   -- where a term goes, as code finds the place
   module _ (O : Order) (t : Term) where
     pub insert-past : (s : Term) (f : Poly) → O (t .word) (s .word) ≡ Below → insert K O t (s ∷ f) ≡ s ∷ insert K O t f
@@ -73,21 +68,6 @@ module _ (K : Operations) where
       go Below e h = rw (insert-past O t s f e) (q also h)
       go Equal e h = rw (insert-onto O t s f e) (put-words P _ (s .word) f q qs)
       go Above e h = rw (insert-before O t s f e) (put-words P (t .coef) (t .word) (s ∷ f) p (q also qs))
-
-  pub insert-length : (O : Order) (t : Term) (f : Poly) → length (insert K O t f) ≤ suc (length f)
-  unfolding insert
-  insert-length O t [] = put-length (t .coef) (t .word) []
-  insert-length O t (s ∷ f) = go (O (t .word) (s .word)) refl (insert-length O t f)
-    where
-      go : (c : Comparison) → O (t .word) (s .word) ≡ c → length (insert K O t f) ≤ suc (length f) → length (insert K O t (s ∷ f)) ≤ suc (length (s ∷ f))
-      go Below e h = rw (insert-past O t s f e) (omega arith)
-      go Equal e h = rw (insert-onto O t s f e) (omega (arith, put-length (K .add (t .coef) (s .coef)) (s .word) f))
-      go Above e h = rw (insert-before O t s f e) (put-length (t .coef) (t .word) (s ∷ f))
-
-  pub plus-length : (O : Order) (f g : Poly) → length (plus K O f g) ≤ length f + length g
-  unfolding plus
-  plus-length O f [] = omega arith
-  plus-length O f (t ∷ g) = omega (arith, plus-length O (insert K O t f) g, insert-length O t f)
 
   -- every word of the sum is a word of one of the two
   pub plus-words : (O : Order) (P : Word → Type 0) (f g : Poly) → All (λ t. P (t .word)) f → All (λ t. P (t .word)) g → All (λ t. P (t .word)) (plus K O f g)

@@ -10,5 +10,8 @@ pub mod Insertion
 pub mod WrittenForm
 pub mod Uniqueness
 pub mod AnyOrder
+pub mod LowestNumber
 pub mod Spots
+pub mod RuleOfSteps
 pub mod Running
+pub mod OneSequence

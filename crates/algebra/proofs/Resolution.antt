@@ -1,5 +1,9 @@
--- Where overlaps and inclusions are resolved, any two multiples of basis polynomials with one leading word are: the two leading words stand apart
--- in that word, overlap in it, or one stands inside the other (source document 002, theorem 3.5.4).
+-- Where overlaps and inclusions are resolved, any two multiples of basis polynomials with one leading word are (`resolves`; source document 002,
+-- theorem 3.5.4). The leading words u and v of the two stand in that one word; it is cut where each begins and where each ends (`cuts`). Where one
+-- begins behind the other's end, they stand apart (`resolved-apart` in Apart.antt); where one stands inside the other, it is an inclusion; else the
+-- letters that both have make an overlap (`sharing`). That pair is resolved, and so it is between more letters left and right (`resolved-times`).
+-- Where v begins before u, the two are exchanged (`resolved-symm`). A leading word stands inside itself only as the whole of it, and then nothing is
+-- left to resolve (`inside-self`, `resolved-refl`).
 use mathlib.Core.Path.{_≡_, refl, sym, _∙_, ap}
 use mathlib.Core.Logic.{_≢_, _⊎_, inl, inr}
 use mathlib.Core.List.{List, [], _∷_, _++_, append-assoc, append-nil, cons≢nil, cons-eq-cons}

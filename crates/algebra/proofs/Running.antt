@@ -1,9 +1,14 @@
--- What running gives: the sequence of steps, its number of steps, and a short form.
+-- What running gives: a sequence of steps, their number, and a short form.
+-- First: a line that is taken away is its product subtracted, and the result is in written form (`takeAway-coeff`, `takeAway-written`). Then
+-- `run`, by induction on the budget: an answer ends a sequence that is as long as the step count (`run-sequence`). Then any sequence, by induction
+-- on its steps: its end is in written form with no leading word inside, and the lines taken away add up to the difference (`sequence-ran`, for any
+-- property of words and one of lines that the steps keep). With words in the package's letters for that property: the lines are over the letters
+-- (`sequence-over`), the end is in them (`sequence-letters`), and under an accepted basis the end is the short form (`sequence-short`).
 use mathlib.Core.Path.{_≡_, refl, sym, _∙_, ap}
 use mathlib.Core.Bool.{Bool, true, false}
 use mathlib.Core.Logic.{_≢_, _⊎_, inl, inr}
 use mathlib.Core.List.{List, [], _∷_, _++_}
-use Prim.Native.Nat.{ℕ, zero, suc, _+_, _≤_}
+use Prim.Native.Nat.{ℕ, zero, suc, _+_}
 use native.Mathlib.Omega.{arith}
 use lib.Dec.{ltb}
 use lib.ListN.{length}
@@ -23,7 +28,7 @@ use Rattle.algebra.specs.Steps.{takeAway, lineAt, stepped, Sequence, end
 use Rattle.algebra.proofs.Coefficients.{scale-words, shift-letters, coeff-nil, red-coeff, coeff-append, coeff-scale, coeff-sub}
 use Rattle.algebra.proofs.Sums.{ideal-trans}
 use Rattle.algebra.proofs.Leading.{led-ne-nil}
-use Rattle.algebra.proofs.Insertion.{plus-coeff, plus-written, plus-words, plus-length}
+use Rattle.algebra.proofs.Insertion.{plus-coeff, plus-written, plus-words}
 use Rattle.algebra.proofs.Spots.{spot-found, spot-nowhere, target-reducible, target-reduced}
 
 module _ {K : Operations} (F : Field K) {O : Order} (A : Admissible O) (G : Family) where
@@ -42,27 +47,6 @@ module _ {K : Operations} (F : Field K) {O : Order} (A : Admissible O) (G : Fami
   pub takeAway-written : (f : Poly) (x : Line) → Written K O f → Written K O (takeAway K O G f x)
   unfolding takeAway
   takeAway-written f x c = plus-written F A f (scale K (neg (x .coef)) (shift (x .left) (x .right) (G (x .of)))) c
-
-scale-length : (K : Operations) (c : ℕ) (f : Poly) → length (scale K c f) ≡ length f
-unfolding scale
-scale-length K c [] = refl
-scale-length K c (t ∷ f) = omega (arith, scale-length K c f)
-
-shift-length : (l r : Word) (f : Poly) → length (shift l r f) ≡ length f
-unfolding shift
-shift-length l r [] = refl
-shift-length l r (t ∷ f) = omega (arith, shift-length l r f)
-
--- a line adds at most as many terms as its polynomial has
-pub takeAway-length : (K : Operations) (O : Order) (G : Family) (f : Poly) (x : Line) → length (takeAway K O G f x) ≤ length f + length (G (x .of))
-unfolding takeAway
-takeAway-length K O G f x =
-    omega (
-      arith,
-      plus-length K O f (scale K (K .neg (x .coef)) (shift (x .left) (x .right) (G (x .of)))),
-      scale-length K (K .neg (x .coef)) (shift (x .left) (x .right) (G (x .of))),
-      shift-length (x .left) (x .right) (G (x .of)),
-    )
 
 module _ (limit : ℕ) (K : Operations) (O : Order) (ps : List Poly) where
   -- an answer after m steps in all: its sequence has the steps that were made since `used`

@@ -43,6 +43,7 @@ module _ {L : ℕ → Type 0} {K : Operations} (F : Field K) {O : Order} (A : Ad
       (support F (λ u. Inside K O G u → ⊥) (sub K M N) (all-append rm (scale-words K (λ u. Inside K O G u → ⊥) (K .neg 1) N rn))) a))
 
   -- 3.4.10: such a polynomial that is itself a sum over the basis is zero.
+  -- (For document 02, P1: where a difference ends nonzero, no lines certify the basis.)
   pub reduced-zero : {N : Poly} → Written K O N → Reduced K O G N → InIdeal L K G N → N ≡ []
   reduced-zero c r a = reduced-unique c r zero done (ideal-sub F a (ideal-zero F))
 
@@ -65,6 +66,7 @@ module _ {L : ℕ → Type 0} {K : Operations} (F : Field K) {O : Order} (A : Ad
   short-zero {f} {N} a = rw append-nil at (short-iff {g = []} {N = []} a (record { written = zero; reduced = done; differs = differ-refl F [] }))
 
   -- short forms add up: of f + c × g it is the written form of M + c × N
+  -- (for document 02, P14: which coefficient of one word makes the short form zero)
   pub short-combine : (c : ℕ) {f g M N : Poly} → Short L K O H G f M → Short L K O H G g N
       → Short L K O H G (f ++ scale K c g) (written K O (M ++ scale K c N))
   short-combine c {f} {g} {M} {N} a b = record {

@@ -1,4 +1,8 @@
 -- Each formal sum has exactly one written form (source document 002, (3.1.1)).
+-- The first term of a written form has its word's coefficient (`coeff-first`), and words above it have none (`coeff-over`); so two written forms of
+-- one polynomial begin with the same term, and so on behind it (`written-unique`). The computed written form is the one (`is-written`), and two
+-- formal sums are equal as polynomials exactly if theirs are one list (`same-iff-written`). The rest is what code needs: properties of all words
+-- (`written-all`), the written form by index (`written-by-index`), and multiples of one (`written-multiple`).
 use mathlib.Core.Path.{_≡_, refl, sym, _∙_, ap, ap₂, subst}
 use mathlib.Core.Logic.{_≢_, _⊎_, inl, inr, _↔_}
 use mathlib.Core.List.{List, [], _∷_, _++_}

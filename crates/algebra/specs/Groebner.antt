@@ -11,11 +11,12 @@ use Rattle.words.specs.Order.{Order, Lt}
 use Rattle.algebra.specs.Poly.{Term, Poly, coeff, Same, scale, shift, sub}
 use Rattle.algebra.specs.Ideal.{Family, Line, value}
 
--- The leading word: the first.
+-- The leading word: the first. (The zero polynomial has none, and what is said of leading words leaves it out.)
 unfoldable pub lead : Poly → Word
 lead [] = []
 lead (t ∷ f) = t .word
 
+-- The leading coefficient: that of the leading word.
 unfoldable pub leadCoef : Poly → ℕ
 leadCoef [] = 0
 leadCoef (t ∷ f) = t .coef

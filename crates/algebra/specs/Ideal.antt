@@ -22,6 +22,7 @@ pub record Line : Type 0 where
   pub of : ℕ
   pub right : Word
 
+-- What a line stands for, as a polynomial.
 unfoldable pub product : Operations → Family → Line → Poly
 unfolding scale shift
 product K G x = scale K (x .coef) (shift (x .left) (x .right) (G (x .of)))

@@ -4,5 +4,6 @@ pub mod Ideal
 pub mod Groebner
 pub mod Short
 pub mod Rewriting
+pub mod StepRule
 pub mod Spot
 pub mod Steps

@@ -1,4 +1,5 @@
--- Where a step applies (document 01, 'Steps'): the greatest word that has a leading word inside, at the leftmost place.
+-- Where a step applies, as it is computed: the greatest word that has a leading word inside, at the leftmost place, with the lowest number there.
+-- StepRule.antt states the rule itself, in document 01's words.
 use mathlib.Core.Bool.{true, false}
 use mathlib.Core.Option.{Option, none, some}
 use mathlib.Core.List.{List, [], _∷_}
@@ -19,6 +20,7 @@ pub data Spot : Type 0 where
   nowhere : Spot
   found : ℕ → ℕ → Spot
 
+-- Place i where a number is found there, else the spot s that was found behind it.
 unfoldable pub spotAt : ℕ → Option ℕ → Spot → Spot
 spotAt i (some n) s = found i n
 spotAt i none s = s
@@ -29,6 +31,7 @@ unfolding firstBegins spotAt
 spotFrom ps [] i = spotAt i (firstBegins ps 1 []) nowhere
 spotFrom ps (a ∷ w) i = spotAt i (firstBegins ps 1 (a ∷ w)) (spotFrom ps w (suc i))
 
+-- The same in w, whose first letter has place 0.
 unfoldable pub spot : List Poly → Word → Spot
 unfolding spotFrom
 spot ps w = spotFrom ps w 0
@@ -38,6 +41,7 @@ pub data Target : Type 0 where
   reduced : Target
   reducible : Term → ℕ → ℕ → Target
 
+-- The term t where its word has a spot, else the target o that was found behind it.
 unfoldable pub targetOf : Term → Spot → Target → Target
 targetOf t (found i n) o = reducible t i n
 targetOf t nowhere o = o
