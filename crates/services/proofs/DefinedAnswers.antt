@@ -24,6 +24,7 @@ use Rattle.services.proofs.Room.{room-listed}
 use Rattle.services.proofs.OutputStart.{fitted-start}
 use Rattle.services.proofs.Answers.{acceptance-is}
 use Rattle.services.proofs.NumberZero.{accepted-as, list-answered, short-ran, member-ran}
+use Rattle.services.proofs.StepsByRule.{only-steps}
 use Rattle.services.proofs.Rows.{with-room}
 
 overlaps-of : (P : Package) → OverlapsOf P (overlaps (leads (basis P)))
@@ -53,11 +54,6 @@ list-overlaps bytes out n =
       },
     )
 
--- The steps of a run that ended.
-steps-of : (P : Package) (f : Poly) (budget : ℕ) (N : Poly) (m n : ℕ) → n ≡ m → run 512 (fieldOf (P .head .p)) wordOrder (basis P) budget 0 f ≡ answer N m → StepsTo P f N n
-steps-of P f budget N m n c e =
-    let (xs, s, l) = run-sequence 512 (fieldOf (P .head .p)) wordOrder (basis P) budget f N m e in record { lines = xs; sequence = s; count = c ∙ sym l }
-
 -- The short form service.
 pub short-by-steps : (bytes text : List ℕ) (budget : ℕ) (out : List ℕ) → shortenedAs bytes text budget (length out) .number ≡ 0
     → (P : Package) × (f : Poly) × AcceptedAs bytes P × ReadAs P text f
@@ -72,7 +68,7 @@ short-by-steps bytes text budget out n =
       x .reads,
       record {
         form = N;
-        steps = steps-of (x .content) (x .input) budget N m _ (ap (λ (y : Shortened). y .steps) a) (x .ran);
+        steps = only-steps bytes text budget N m x _ (ap (λ (y : Shortened). y .steps) a);
         size = ap (λ (y : Shortened). y .written) a;
         output = ap (shortOutput out) r ∙ fitted-start (writeFormula N) out l;
       },
@@ -90,7 +86,7 @@ member-by-steps bytes text budget n =
       x .reads,
       record {
         form = N;
-        steps = steps-of (x .content) (x .input) budget N m _ (ap (λ (y : Reduction). memberAnswer y .steps) r ∙ steps-told N m) (x .ran);
+        steps = only-steps bytes text budget N m x _ (ap (λ (y : Reduction). memberAnswer y .steps) r ∙ steps-told N m);
         yes = λ e. ap (λ (y : Reduction). memberAnswer y .member) r ∙ yes N m e;
         no = λ e. ap (λ (y : Reduction). memberAnswer y .member) r ∙ no N m e;
       },

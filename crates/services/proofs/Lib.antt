@@ -8,6 +8,7 @@ pub mod OutputStart
 pub mod Answers
 pub mod Refusals
 pub mod Acceptance
+pub mod StepsByRule
 pub mod DefinedAnswers
 pub mod ShortForms
 pub mod Demands

@@ -7,15 +7,16 @@
 use mathlib.Core.Path.{_≡_}
 use mathlib.Core.Logic.{_↔_, _≢_, _⊎_}
 use mathlib.Core.List.{List, [], _∷_, _++_, List·Memᴰ}
-use Prim.Native.Nat.{ℕ, _≤_}
+use Prim.Native.Nat.{ℕ, suc, _≤_}
 use lib.ListN.{length, take, drop}
 use Rattle.field.specs.Field.{fieldOf}
 use Rattle.words.specs.Word.{Letter}
 use Rattle.words.specs.Order.{wordOrder}
-use Rattle.algebra.specs.Poly.{Poly, InLetters, sub}
-use Rattle.algebra.specs.Ideal.{Line, family, InIdeal}
+use Rattle.algebra.specs.Poly.{Term, Poly, InLetters, sub}
+use Rattle.algebra.specs.Ideal.{family, InIdeal}
 use Rattle.algebra.specs.Short.{Short}
-use Rattle.algebra.specs.Steps.{Sequence}
+use Rattle.algebra.specs.StepRule.{StepRule, NoStep}
+use Rattle.algebra.specs.Steps.{stepped}
 use Rattle.package.specs.Formula.{formula, readFormula}
 use Rattle.package.specs.Package.{Package, read, readPackage}
 use Rattle.package.specs.Readable.{Readable}
@@ -113,24 +114,30 @@ pub record ListsOverlaps (P : Package) (a : Listed) (before after : List ℕ) : 
   pub size : a .written ≡ length (listText P rows)
   pub output : after ≡ atStart (listText P rows) before
 
--- m steps by 01's rule bring f to N, where nothing is reducible. The lines are what the steps subtract, in order.
-pub record StepsTo (P : Package) (f N : Poly) (m : ℕ) : Type 0 where
-  pub lines : List Line
-  pub sequence : Sequence (fieldOf (P .head .p)) wordOrder (basis P) f lines N
-  pub count : m ≡ length lines
+-- f comes to N in m steps by 01's rule. No step is left where no word has a leading word inside. Else the rule names a step (StepRule: the greatest
+-- word that has a leading word inside, at the leftmost place); `stepped` subtracts that word's coefficient × left × basis polynomial × right.
+pub data StepsTo (P : Package) : Poly → ℕ → Poly → Type 0 where
+  noStep : {f : Poly} → NoStep (basis P) f → StepsTo P f 0 f
+  stepThen : {f N : Poly} {m : ℕ} {t : Term} {i n : ℕ} → StepRule wordOrder (basis P) f t i n
+      → StepsTo P (stepped (fieldOf (P .head .p)) wordOrder (basis P) f t i n) m N → StepsTo P f (suc m) N
+
+-- These are the steps from f, and there are no others: whichever way is gone by the rule, it has m steps and ends in N.
+pub record OnlySteps (P : Package) (f : Poly) (m : ℕ) (N : Poly) : Type 0 where
+  pub steps : StepsTo P f m N
+  pub only : (k : ℕ) (M : Poly) → StepsTo P f k M → (k ≡ m) × (M ≡ N)
 
 -- The short form service answers with the end of the steps from f: it tells how many there are, and that end, written as a formula, is at the start of
 -- the output slice.
 pub record ShortensBySteps (P : Package) (f : Poly) (a : Shortened) (before after : List ℕ) : Type 0 where
   pub form : Poly
-  pub steps : StepsTo P f form (a .steps)
+  pub steps : OnlySteps P f (a .steps) form
   pub size : a .written ≡ length (writeFormula form)
   pub output : after ≡ atStart (writeFormula form) before
 
 -- Membership answers with the steps from f: it tells how many there are, and yes (1) where their end is zero, no (0) where it is not.
 pub record DecidesBySteps (P : Package) (f : Poly) (a : Membership) : Type 0 where
   pub form : Poly
-  pub steps : StepsTo P f form (a .steps)
+  pub steps : OnlySteps P f (a .steps) form
   pub yes : form ≡ [] → a .member ≡ 1
   pub no : form ≢ [] → a .member ≡ 0
 
@@ -138,7 +145,7 @@ pub record DecidesBySteps (P : Package) (f : Poly) (a : Membership) : Type 0 whe
 -- given there; and the overlap list, each rewriting step, the step count, the short form and the yes or no of membership are those of 01's definitions.
 --
 -- Numbers and places: the definitions in Services.antt are 01's order of refusals, line by line, and each service's contract is equality with them.
--- Each step: `Sequence` (algebra/specs/Steps.antt) makes 01's step at 01's word and place. The fields below say the rest.
+-- The fields below say the rest, in 01's words.
 pub record Demand2 : Type 0 where
   pub accepted : (bytes : List ℕ) → (checkedAs bytes .number ≡ 0) ↔ FactsHold bytes
   pub check-count : (bytes : List ℕ) (P : Package) → AcceptedAs bytes P → (os : List Overlap) × OverlapsOf P os × (checkedAs bytes .overlaps ≡ length os)
