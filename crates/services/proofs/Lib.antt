@@ -8,7 +8,9 @@ pub mod OutputStart
 pub mod Answers
 pub mod Refusals
 pub mod Acceptance
+pub mod FormulaSize
 pub mod StepsByRule
+pub mod RunsByRule
 pub mod DefinedAnswers
 pub mod ShortForms
 pub mod Demands

@@ -7,7 +7,7 @@
 use mathlib.Core.Path.{_≡_}
 use mathlib.Core.Logic.{_↔_, _≢_, _⊎_}
 use mathlib.Core.List.{List, [], _∷_, _++_, List·Memᴰ}
-use Prim.Native.Nat.{ℕ, suc, _≤_}
+use Prim.Native.Nat.{ℕ, suc, _≤_, _<_}
 use lib.ListN.{length, take, drop}
 use Rattle.field.specs.Field.{fieldOf}
 use Rattle.words.specs.Word.{Letter}
@@ -25,7 +25,7 @@ use Rattle.overlaps.specs.Overlaps.{Overlap, IsOverlap, Rising, leads}
 use Rattle.overlaps.specs.Listing.{overlapNames, overlapLines}
 use Rattle.acceptance.specs.Content.{relations, basis}
 use Rattle.acceptance.specs.Facts.{Acceptable}
-use Rattle.acceptance.specs.Reduction.{formulaLimits}
+use Rattle.acceptance.specs.Reduction.{formulaLimits, Reduction, refusedBy, shortForm, reduction}
 use Rattle.services.specs.declared.Checked.{Checked}
 use Rattle.services.specs.declared.Listed.{Listed}
 use Rattle.services.specs.declared.Shortened.{Shortened}
@@ -114,17 +114,31 @@ pub record ListsOverlaps (P : Package) (a : Listed) (before after : List ℕ) : 
   pub size : a .written ≡ length (listText P rows)
   pub output : after ≡ atStart (listText P rows) before
 
--- f comes to N in m steps by 01's rule. No step is left where no word has a leading word inside. Else the rule names a step (StepRule: the greatest
--- word that has a leading word inside, at the leftmost place); `stepped` subtracts that word's coefficient × left × basis polynomial × right.
+-- m steps by 01's rule lead from f to N. Each is the step that the rule names (StepRule: the greatest word that has a leading word inside, at the leftmost
+-- place); `stepped` subtracts that word's coefficient × left × basis polynomial × right.
 pub data StepsTo (P : Package) : Poly → ℕ → Poly → Type 0 where
-  noStep : {f : Poly} → NoStep (basis P) f → StepsTo P f 0 f
+  unmoved : {f : Poly} → StepsTo P f 0 f
   stepThen : {f N : Poly} {m : ℕ} {t : Term} {i n : ℕ} → StepRule wordOrder (basis P) f t i n
       → StepsTo P (stepped (fieldOf (P .head .p)) wordOrder (basis P) f t i n) m N → StepsTo P f (suc m) N
 
--- These are the steps from f, and there are no others: whichever way is gone by the rule, it has m steps and ends in N.
+-- No polynomial on the way from f, through m steps, has over 512 terms.
+abbrev pub Small : Package → Poly → ℕ → Type 0
+Small P f m = (k : ℕ) (g : Poly) → k ≤ m → StepsTo P f k g → length g ≤ 512
+
+-- How the steps from f end within the budget, with what the formula services say of it before they judge 19.
+pub data StepsEnd (P : Package) (f : Poly) (budget : ℕ) : Reduction → Type 0 where
+  -- after m steps, which the budget allows, no word has a leading word inside: the short form and its step count
+  nothingLeft : {N : Poly} {m : ℕ} → StepsTo P f m N → NoStep (basis P) N → m ≤ budget → Small P f m → StepsEnd P f budget (shortForm N m)
+  -- a step that the budget allows is the first to leave over 512 terms: 17 with the step
+  tooMany : {g : Poly} {m : ℕ} → StepsTo P f (suc m) g → 512 < length g → suc m ≤ budget → Small P f m → StepsEnd P f budget (refusedBy 17 (suc m))
+  -- as many steps as the budget has are made, and one is left: 18 with the budget
+  budgetUsed : {g : Poly} → StepsTo P f budget g → (NoStep (basis P) g → ⊥) → Small P f budget → StepsEnd P f budget (refusedBy 18 budget)
+
+-- f comes to N in m steps, where no step is left, and by the rule there is no other end and no other number of steps.
 pub record OnlySteps (P : Package) (f : Poly) (m : ℕ) (N : Poly) : Type 0 where
   pub steps : StepsTo P f m N
-  pub only : (k : ℕ) (M : Poly) → StepsTo P f k M → (k ≡ m) × (M ≡ N)
+  pub last : NoStep (basis P) N
+  pub only : (k : ℕ) (M : Poly) → StepsTo P f k M → NoStep (basis P) M → (k ≡ m) × (M ≡ N)
 
 -- The short form service answers with the end of the steps from f: it tells how many there are, and that end, written as a formula, is at the start of
 -- the output slice.
@@ -151,6 +165,9 @@ pub record Demand2 : Type 0 where
   pub check-count : (bytes : List ℕ) (P : Package) → AcceptedAs bytes P → (os : List Overlap) × OverlapsOf P os × (checkedAs bytes .overlaps ≡ length os)
   pub list : (bytes out : List ℕ) → listedAs bytes (length out) .number ≡ 0
       → (P : Package) × (readPackage bytes ≡ read P) × ListsOverlaps P (listedAs bytes (length out)) out (listedInto bytes out)
+  -- `reduction` is what both formula services judge before 19: the whole package, then 16 for a formula that does not read, then 17 and 18 as steps go
+  pub steps : (bytes text : List ℕ) (budget : ℕ) (P : Package) (f : Poly) → AcceptedAs bytes P → ReadAs P text f
+      → (r : Reduction) → (reduction bytes text budget ≡ r) ↔ StepsEnd P f budget r
   pub short : (bytes text : List ℕ) (budget : ℕ) (out : List ℕ) → shortenedAs bytes text budget (length out) .number ≡ 0
       → (P : Package) × (f : Poly) × AcceptedAs bytes P × ReadAs P text f
       × ShortensBySteps P f (shortenedAs bytes text budget (length out)) out (shortenedInto bytes text budget out)
