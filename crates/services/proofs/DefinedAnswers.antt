@@ -1,14 +1,10 @@
 -- What the services answer is what 01 defines: the overlap list has the overlaps, and short form and membership tell the steps and their end.
-use mathlib.Core.Path.{_≡_, refl, sym, _∙_, ap}
+use mathlib.Core.Path.{_≡_, refl, _∙_, ap}
 use mathlib.Core.Logic.{_≢_}
 use mathlib.Core.List.{List, [], _∷_}
 use Prim.Native.Nat.{ℕ}
 use lib.ListN.{length}
-use Rattle.field.specs.Field.{fieldOf}
-use Rattle.words.specs.Order.{wordOrder}
 use Rattle.algebra.specs.Poly.{Poly}
-use Rattle.algebra.specs.Steps.{answer, run}
-use Rattle.algebra.proofs.Running.{run-sequence}
 use Rattle.package.specs.Package.{Package, Outcome, read, readPackage}
 use Rattle.package.specs.Writing.{writeFormula}
 use Rattle.overlaps.specs.Overlaps.{Overlap, leads, overlaps}
@@ -19,7 +15,7 @@ use Rattle.acceptance.specs.Reduction.{Reduction, shortForm}
 use Rattle.services.specs.declared.Listed.{Listed}
 use Rattle.services.specs.declared.Shortened.{Shortened}
 use Rattle.services.specs.Services.{checkAnswer, checkedAs, listAnswer, listedAs, listOutput, listedInto, shortAnswer, shortenedAs, shortOutput, shortenedInto, memberAnswer, membershipAs}
-use Rattle.services.specs.Demands.{AcceptedAs, ReadAs, OverlapsOf, ListsOverlaps, StepsTo, ShortensBySteps, DecidesBySteps}
+use Rattle.services.specs.Demands.{AcceptedAs, ReadAs, OverlapsOf, ListsOverlaps, ShortensBySteps, DecidesBySteps}
 use Rattle.services.proofs.Room.{room-listed}
 use Rattle.services.proofs.OutputStart.{fitted-start}
 use Rattle.services.proofs.Answers.{acceptance-is}

@@ -2,12 +2,13 @@
 pub mod RefusalNumbers
 pub mod VerdictNumbers
 pub mod ServiceNumbers
-pub mod NumberZero
+pub mod Refusals
 pub mod Room
 pub mod OutputStart
 pub mod Answers
-pub mod Refusals
+pub mod NumberZero
 pub mod Acceptance
+pub mod Judgements
 pub mod FormulaSize
 pub mod StepsByRule
 pub mod RunsByRule

@@ -5,9 +5,9 @@ use mathlib.Core.List.{List, [], _∷_}
 use Prim.Native.Nat.{ℕ, suc, _+_, _≤_}
 use native.Mathlib.Nat.{zero-add}
 use native.Mathlib.Omega.{arith}
-use lib.Dec.{eqb, ltb}
+use lib.Dec.{ltb}
 use lib.ListN.{length}
-use borrow.Author.Tests.{eq-eqb, le-ltb, ltb-true}
+use borrow.Author.Tests.{eq-eqb, le-ltb}
 use Rattle.field.specs.Field.{Operations, Field, fieldOf}
 use Rattle.field.proofs.Derived.{red-zero}
 use Rattle.words.specs.declared.Comparison.{Comparison}
@@ -22,17 +22,12 @@ use Rattle.algebra.specs.Ideal.{family}
 use Rattle.algebra.specs.Groebner.{lead}
 use Rattle.algebra.specs.Spot.{firstBegins, nowhere, found, spotAt, spotFrom, spot, Target, reduced, reducible, targetOf, target}
 use Rattle.algebra.specs.Steps.{takeAway, lineAt, stepped, Ended, answer, over, spent, onward, run}
-use Rattle.package.specs.declared.Limits.{Limits}
-use Rattle.package.specs.Bounds.{coefFits, wordFits}
-use Rattle.words.specs.Below.{isBelow}
-use Rattle.package.specs.Formula.{rowFits}
 use Rattle.package.specs.Package.{Package}
-use Rattle.package.specs.Readable.{RowsInOrder, noRows, rowThen}
+use Rattle.package.specs.Readable.{RowsInOrder}
 use Rattle.package.specs.Writing.{writeFormula}
 use Rattle.package.proofs.FormulaTexts.{formula-reads}
 use Rattle.package.proofs.PackageTexts.{reads-written}
 use Rattle.acceptance.specs.Content.{basis}
-use Rattle.acceptance.proofs.LineFacts.{both}
 use Rattle.acceptance.proofs.ReadableContent.{readable-field}
 use Rattle.acceptance.specs.Reduction.{formulaLimits, reductionOf, formulaReduced, packageReduced}
 use Rattle.services.specs.Demands.{AcceptedAs, ReadAs}

@@ -17,7 +17,7 @@ use Rattle.algebra.specs.Ideal.{family, InIdeal}
 use Rattle.algebra.specs.Short.{Short}
 use Rattle.algebra.specs.StepRule.{StepRule, NoStep}
 use Rattle.algebra.specs.Steps.{stepped}
-use Rattle.package.specs.Formula.{formula, readFormula}
+use Rattle.package.specs.Formula.{wrongAt, formula, readFormula}
 use Rattle.package.specs.Package.{Package, read, readPackage}
 use Rattle.package.specs.Readable.{Readable}
 use Rattle.package.specs.Writing.{writeFormula, writePackage}
@@ -46,6 +46,10 @@ ReadAs P text f = readFormula (P .head .p) (P .head .letters) formulaLimits text
 -- A text at the start of an output slice; the bytes after it keep their old values.
 abbrev pub atStart : List ℕ → List ℕ → List ℕ
 atStart text out = text ++ drop (length text) out
+
+-- A refusal of the short form service: number and place, and both counts 0.
+abbrev pub refusedShort : ℕ → ℕ → Shortened
+refusedShort n k = record { number = n; place = k; steps = 0; written = 0 }
 
 -- ==== Demand 1: a service answers, or it refuses and changes nothing
 
@@ -158,16 +162,27 @@ pub record DecidesBySteps (P : Package) (f : Poly) (a : Membership) : Type 0 whe
 -- Demand 2. A package is accepted exactly when document 01's facts hold of it; every service refuses exactly when 01 says so, with the number and place
 -- given there; and the overlap list, each rewriting step, the step count, the short form and the yes or no of membership are those of 01's definitions.
 --
--- Numbers and places: the definitions in Services.antt are 01's order of refusals, line by line, and each service's contract is equality with them.
--- The fields below say the rest, in 01's words.
+-- Numbers and places of the check and of listing are those of their definitions (package/specs/Package.antt for 1 to 7, acceptance/specs/Check.antt for 8
+-- to 15: the first refusal in 01's order), since each contract is equality with Services.antt. The fields below say the rest, in 01's words.
 pub record Demand2 : Type 0 where
   pub accepted : (bytes : List ℕ) → (checkedAs bytes .number ≡ 0) ↔ FactsHold bytes
   pub check-count : (bytes : List ℕ) (P : Package) → AcceptedAs bytes P → (os : List Overlap) × OverlapsOf P os × (checkedAs bytes .overlaps ≡ length os)
   pub list : (bytes out : List ℕ) → listedAs bytes (length out) .number ≡ 0
       → (P : Package) × (readPackage bytes ≡ read P) × ListsOverlaps P (listedAs bytes (length out)) out (listedInto bytes out)
-  -- `reduction` is what both formula services judge before 19: the whole package, then 16 for a formula that does not read, then 17 and 18 as steps go
+  -- `reduction` is what both formula services judge before 19: the whole package as the check does, then 16 with the formula's line, then 17 and 18 as
+  -- steps go
+  pub package-first : (bytes text : List ℕ) (budget : ℕ) → checkedAs bytes .number ≢ 0
+      → reduction bytes text budget ≡ refusedBy (checkedAs bytes .number) (checkedAs bytes .place)
+  pub formula-next : (bytes text : List ℕ) (budget : ℕ) (P : Package) (line : ℕ) → AcceptedAs bytes P
+      → readFormula (P .head .p) (P .head .letters) formulaLimits text ≡ wrongAt line → reduction bytes text budget ≡ refusedBy 16 line
   pub steps : (bytes text : List ℕ) (budget : ℕ) (P : Package) (f : Poly) → AcceptedAs bytes P → ReadAs P text f
       → (r : Reduction) → (reduction bytes text budget ≡ r) ↔ StepsEnd P f budget r
+  -- its refusals are those of both services; the short form service adds 19 with the bytes required
+  pub refusals : (bytes text : List ℕ) (budget n k : ℕ) → reduction bytes text budget ≡ refusedBy n k → (room : ℕ)
+      → (shortenedAs bytes text budget room ≡ refusedShort n k) × (membershipAs bytes text budget ≡ record { number = n; place = k; steps = 0; member = 0 })
+  pub room-last : (bytes text : List ℕ) (budget m : ℕ) (N : Poly) → reduction bytes text budget ≡ shortForm N m
+      → (room : ℕ) → room < length (writeFormula N) → shortenedAs bytes text budget room ≡ refusedShort 19 (length (writeFormula N))
+  -- what they answer
   pub short : (bytes text : List ℕ) (budget : ℕ) (out : List ℕ) → shortenedAs bytes text budget (length out) .number ≡ 0
       → (P : Package) × (f : Poly) × AcceptedAs bytes P × ReadAs P text f
       × ShortensBySteps P f (shortenedAs bytes text budget (length out)) out (shortenedInto bytes text budget out)
