@@ -126,17 +126,17 @@ pub data StepsTo (P : Package) : Poly → ℕ → Poly → Type 0 where
       → StepsTo P (stepped (fieldOf (P .head .p)) wordOrder (basis P) f t i n) m N → StepsTo P f (suc m) N
 
 -- No polynomial on the way from f, through m steps, has over 512 terms.
-abbrev pub Small : Package → Poly → ℕ → Type 0
-Small P f m = (k : ℕ) (g : Poly) → k ≤ m → StepsTo P f k g → length g ≤ 512
+abbrev pub AtMost512 : Package → Poly → ℕ → Type 0
+AtMost512 P f m = (k : ℕ) (g : Poly) → k ≤ m → StepsTo P f k g → length g ≤ 512
 
 -- How the steps from f end within the budget, with what the formula services say of it before they judge 19.
 pub data StepsEnd (P : Package) (f : Poly) (budget : ℕ) : Reduction → Type 0 where
   -- after m steps, which the budget allows, no word has a leading word inside: the short form and its step count
-  nothingLeft : {N : Poly} {m : ℕ} → StepsTo P f m N → NoStep (basis P) N → m ≤ budget → Small P f m → StepsEnd P f budget (shortForm N m)
+  nothingLeft : {N : Poly} {m : ℕ} → StepsTo P f m N → NoStep (basis P) N → m ≤ budget → AtMost512 P f m → StepsEnd P f budget (shortForm N m)
   -- a step that the budget allows is the first to leave over 512 terms: 17 with the step
-  tooMany : {g : Poly} {m : ℕ} → StepsTo P f (suc m) g → 512 < length g → suc m ≤ budget → Small P f m → StepsEnd P f budget (refusedBy 17 (suc m))
+  tooMany : {g : Poly} {m : ℕ} → StepsTo P f (suc m) g → 512 < length g → suc m ≤ budget → AtMost512 P f m → StepsEnd P f budget (refusedBy 17 (suc m))
   -- as many steps as the budget has are made, and one is left: 18 with the budget
-  budgetUsed : {g : Poly} → StepsTo P f budget g → (NoStep (basis P) g → ⊥) → Small P f budget → StepsEnd P f budget (refusedBy 18 budget)
+  budgetUsed : {g : Poly} → StepsTo P f budget g → (NoStep (basis P) g → ⊥) → AtMost512 P f budget → StepsEnd P f budget (refusedBy 18 budget)
 
 -- f comes to N in m steps, where no step is left, and by the rule there is no other end and no other number of steps.
 pub record OnlySteps (P : Package) (f : Poly) (m : ℕ) (N : Poly) : Type 0 where
