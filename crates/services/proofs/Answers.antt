@@ -43,7 +43,7 @@ acceptance-is bytes P acc = accepted-is bytes P (acc .reads) (answered-fine byte
 
 module _ (bytes : List ℕ) (P : Package) (acc : acceptance bytes ≡ read P) (text : List ℕ) (f : Poly)
     (reads : readFormula (P .head .p) (P .head .letters) formulaLimits text ≡ formula f) (budget : ℕ) where
-  reduction-is : reduction bytes text budget ≡ reductionOf budget (run 512 (fieldOf (P .head .p)) wordOrder (basis P) budget 0 f)
+  pub reduction-is : reduction bytes text budget ≡ reductionOf budget (run 512 (fieldOf (P .head .p)) wordOrder (basis P) budget 0 f)
   unfolding reduction packageReduced formulaReduced
   reduction-is = ap (packageReduced text budget) acc ∙ ap (formulaReduced P budget) reads
 

@@ -1,14 +1,10 @@
 -- What the services answer is what 01 defines: the overlap list has the overlaps, and short form and membership tell the steps and their end.
-use mathlib.Core.Path.{_≡_, refl, sym, _∙_, ap}
+use mathlib.Core.Path.{_≡_, refl, _∙_, ap}
 use mathlib.Core.Logic.{_≢_}
 use mathlib.Core.List.{List, [], _∷_}
 use Prim.Native.Nat.{ℕ}
 use lib.ListN.{length}
-use Rattle.field.specs.Field.{fieldOf}
-use Rattle.words.specs.Order.{wordOrder}
 use Rattle.algebra.specs.Poly.{Poly}
-use Rattle.algebra.specs.Steps.{answer, run}
-use Rattle.algebra.proofs.Running.{run-sequence}
 use Rattle.package.specs.Package.{Package, Outcome, read, readPackage}
 use Rattle.package.specs.Writing.{writeFormula}
 use Rattle.overlaps.specs.Overlaps.{Overlap, leads, overlaps}
@@ -19,11 +15,12 @@ use Rattle.acceptance.specs.Reduction.{Reduction, shortForm}
 use Rattle.services.specs.declared.Listed.{Listed}
 use Rattle.services.specs.declared.Shortened.{Shortened}
 use Rattle.services.specs.Services.{checkAnswer, checkedAs, listAnswer, listedAs, listOutput, listedInto, shortAnswer, shortenedAs, shortOutput, shortenedInto, memberAnswer, membershipAs}
-use Rattle.services.specs.Demands.{AcceptedAs, ReadAs, OverlapsOf, ListsOverlaps, StepsTo, ShortensBySteps, DecidesBySteps}
+use Rattle.services.specs.Demands.{AcceptedAs, ReadAs, OverlapsOf, ListsOverlaps, ShortensBySteps, DecidesBySteps}
 use Rattle.services.proofs.Room.{room-listed}
 use Rattle.services.proofs.OutputStart.{fitted-start}
 use Rattle.services.proofs.Answers.{acceptance-is}
 use Rattle.services.proofs.NumberZero.{accepted-as, list-answered, short-ran, member-ran}
+use Rattle.services.proofs.StepsByRule.{only-steps}
 use Rattle.services.proofs.Rows.{with-room}
 
 overlaps-of : (P : Package) → OverlapsOf P (overlaps (leads (basis P)))
@@ -53,11 +50,6 @@ list-overlaps bytes out n =
       },
     )
 
--- The steps of a run that ended.
-steps-of : (P : Package) (f : Poly) (budget : ℕ) (N : Poly) (m n : ℕ) → n ≡ m → run 512 (fieldOf (P .head .p)) wordOrder (basis P) budget 0 f ≡ answer N m → StepsTo P f N n
-steps-of P f budget N m n c e =
-    let (xs, s, l) = run-sequence 512 (fieldOf (P .head .p)) wordOrder (basis P) budget f N m e in record { lines = xs; sequence = s; count = c ∙ sym l }
-
 -- The short form service.
 pub short-by-steps : (bytes text : List ℕ) (budget : ℕ) (out : List ℕ) → shortenedAs bytes text budget (length out) .number ≡ 0
     → (P : Package) × (f : Poly) × AcceptedAs bytes P × ReadAs P text f
@@ -72,7 +64,7 @@ short-by-steps bytes text budget out n =
       x .reads,
       record {
         form = N;
-        steps = steps-of (x .content) (x .input) budget N m _ (ap (λ (y : Shortened). y .steps) a) (x .ran);
+        steps = only-steps bytes text budget N m x _ (ap (λ (y : Shortened). y .steps) a);
         size = ap (λ (y : Shortened). y .written) a;
         output = ap (shortOutput out) r ∙ fitted-start (writeFormula N) out l;
       },
@@ -90,7 +82,7 @@ member-by-steps bytes text budget n =
       x .reads,
       record {
         form = N;
-        steps = steps-of (x .content) (x .input) budget N m _ (ap (λ (y : Reduction). memberAnswer y .steps) r ∙ steps-told N m) (x .ran);
+        steps = only-steps bytes text budget N m x _ (ap (λ (y : Reduction). memberAnswer y .steps) r ∙ steps-told N m);
         yes = λ e. ap (λ (y : Reduction). memberAnswer y .member) r ∙ yes N m e;
         no = λ e. ap (λ (y : Reduction). memberAnswer y .member) r ∙ no N m e;
       },

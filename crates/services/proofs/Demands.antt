@@ -9,6 +9,8 @@ use Rattle.services.specs.Demands.{Between, Demand1, Demand2, Demand3}
 use Rattle.services.proofs.ServiceNumbers.{check-numbers, check-success, list-numbers, list-success, short-numbers, short-success, member-numbers, member-success}
 use Rattle.services.proofs.Refusals.{refused-check, refused-list, refused-short, refused-member}
 use Rattle.services.proofs.Acceptance.{accepted-iff}
+use Rattle.services.proofs.Judgements.{package-first, formula-next, refusals-told, room-last}
+use Rattle.services.proofs.RunsByRule.{steps-end-iff}
 use Rattle.services.proofs.DefinedAnswers.{check-count, list-overlaps, short-by-steps, member-by-steps}
 use Rattle.services.proofs.ShortForms.{same-bytes-iff, written-short, member-iff}
 
@@ -45,7 +47,18 @@ demand1 = record {
     listed n h (inr e) = inr e
 
 demand2 : Demand2
-demand2 = record { accepted = accepted-iff; check-count = check-count; list = list-overlaps; short = short-by-steps; member = member-by-steps }
+demand2 = record {
+  accepted = accepted-iff;
+  check-count = check-count;
+  list = list-overlaps;
+  package-first = package-first;
+  formula-next = formula-next;
+  steps = steps-end-iff;
+  refusals = refusals-told;
+  room-last = room-last;
+  short = short-by-steps;
+  member = member-by-steps;
+}
 
 demand3 : Demand3
 demand3 = record {

@@ -22,7 +22,8 @@ use Rattle.acceptance.specs.Content.{basis}
 use Rattle.acceptance.specs.Acceptance.{acceptance}
 use Rattle.acceptance.specs.Reduction.{formulaLimits, refusedBy, shortForm, reductionOf, formulaReduced, packageReduced, reduction}
 use Rattle.services.specs.Services.{listable, checkAnswer, checkedAs, listAnswer, listedAs, listOutput, listedInto, shortAnswer, shortenedAs, shortOutput, shortenedInto, memberAnswer, membershipAs}
-use Rattle.services.specs.Examples.{refusedShort, Shortens, IsAbove, Lists, IsAccepted, IsMember, Refuses}
+use Rattle.services.specs.Demands.{refusedShort}
+use Rattle.services.specs.Examples.{Shortens, IsAbove, Lists, IsAccepted, IsMember, Refuses}
 use Rattle.services.proofs.Budgets.{run-more, run-fewer}
 use Rattle.services.proofs.Room.{no-room, no-room-kept, room-listed}
 use Rattle.services.proofs.OutputStart.{fitted-start}
@@ -68,7 +69,7 @@ pub with-room : (N : Poly) (m room : ℕ) → length (writeFormula N) ≤ room
 unfolding shortAnswer
 with-room N m room l = rw (shortAnswer, le-ltb room (length (writeFormula N)) l)
 
-without-room : (N : Poly) (m room : ℕ) → room < length (writeFormula N) → shortAnswer room (shortForm N m) ≡ refusedShort 19 (length (writeFormula N))
+pub without-room : (N : Poly) (m room : ℕ) → room < length (writeFormula N) → shortAnswer room (shortForm N m) ≡ refusedShort 19 (length (writeFormula N))
 unfolding shortAnswer
 without-room N m room l = rw (shortAnswer, lt-ltb room (length (writeFormula N)) l)
 

@@ -54,8 +54,8 @@ module _ (bytes : List ℕ) (P : Package) (acc : AcceptedAs bytes P) where
   fine-check : checked P ≡ fine
   fine-check = answered-fine bytes P (acc .reads) (acc .answered)
 
-  taken : acceptance bytes ≡ read P
-  taken = acceptance-is bytes P acc
+  package-accepted-as : acceptance bytes ≡ read P
+  package-accepted-as = acceptance-is bytes P acc
 
   -- An accepted package's facts hold.
   pub accepted-facts : Acceptable P
@@ -65,8 +65,8 @@ module _ (bytes : List ℕ) (P : Package) (acc : AcceptedAs bytes P) where
   basis-accepted = package-accepted P readable accepted-facts
 
   module _ (text : List ℕ) (f : Poly) (reads : ReadAs P text f) where
-    formula-written : Written (fieldOf (P .head .p)) wordOrder f × InLetters (Letter (P .head .letters)) f
-    formula-written = formula-content (P .head .p) (P .head .letters) formulaLimits text f reads
+    formula-in-form : Written (fieldOf (P .head .p)) wordOrder f × InLetters (Letter (P .head .letters)) f
+    formula-in-form = formula-content (P .head .p) (P .head .letters) formulaLimits text f reads
 
     -- the end of a run is a short form, in the letters
     ran-short : (budget : ℕ) (N : Poly) (m : ℕ) → run 512 (fieldOf (P .head .p)) wordOrder (basis P) budget 0 f ≡ answer N m
@@ -75,19 +75,19 @@ module _ (bytes : List ℕ) (P : Package) (acc : AcceptedAs bytes P) where
         let F = readable-field P readable in
         let v = family-letters (Letter (P .head .letters)) (basis P) (basis-letters P readable) in
         let (xs, s, l) = run-sequence 512 (fieldOf (P .head .p)) wordOrder (basis P) budget f N m e in (
-          sequence-short F word-order-admissible (basis P) (Letter (P .head .letters)) v basis-accepted (formula-written .0) (formula-written .1) s,
-          sequence-letters F word-order-admissible (basis P) (Letter (P .head .letters)) v (formula-written .1) s,
+          sequence-short F word-order-admissible (basis P) (Letter (P .head .letters)) v basis-accepted (formula-in-form .0) (formula-in-form .1) s,
+          sequence-letters F word-order-admissible (basis P) (Letter (P .head .letters)) v (formula-in-form .1) s,
         )
 
     -- The bytes written are the text of a polynomial in the package's letters, with no leading word inside, that differs from the formula by a sum over
     -- the relations, and any polynomial with the last two properties equals it.
     pub written-short : (budget : ℕ) (out : List ℕ) → GetsShortForm bytes text budget out → OneShortForm P f (writtenBytes bytes text budget out)
     written-short budget out n =
-        let (N, m, e) = short-answered bytes P taken text f reads budget (length out) n in
+        let (N, m, e) = short-answered bytes P package-accepted-as text f reads budget (length out) n in
         let (s, l) = ran-short budget N m e in
         record {
           form = N;
-          is-text = written-is bytes P taken text f reads budget N m e out n;
+          is-text = written-is bytes P package-accepted-as text f reads budget N m e out n;
           letters = l;
           is-short = s;
           only = λ M t. short-unique (readable-field P readable) word-order-admissible basis-accepted t s;
@@ -97,9 +97,9 @@ module _ (bytes : List ℕ) (P : Package) (acc : AcceptedAs bytes P) where
     pub member-iff : (budget : ℕ) → membershipAs bytes text budget .number ≡ 0 → (membershipAs bytes text budget .member ≡ 1) ↔ RelationSum P f
     unfolding membershipAs memberAnswer
     member-iff budget n =
-        let (N, m, e) = member-answered bytes P taken text f reads budget n in
+        let (N, m, e) = member-answered bytes P package-accepted-as text f reads budget n in
         let z = short-zero (readable-field P readable) word-order-admissible basis-accepted (ran-short budget N m e .0) in
-        let r = reduced-is bytes P taken text f reads budget N m e in
+        let r = reduced-is bytes P package-accepted-as text f reads budget N m e in
         (λ y. z .0 (yes-zero N m (rw r at y)), λ y. ap (λ (x : Reduction). memberAnswer x .member) r ∙ zero-yes N m (z .1 y))
       where
         yes-zero : (N : Poly) (m : ℕ) → memberAnswer (shortForm N m) .member ≡ 1 → N ≡ []
@@ -114,12 +114,12 @@ module _ (bytes : List ℕ) (P : Package) (acc : AcceptedAs bytes P) where
       → (budget₁ budget₂ : ℕ) (out₁ out₂ : List ℕ) → GetsShortForm bytes text₁ budget₁ out₁ → GetsShortForm bytes text₂ budget₂ out₂
       → (writtenBytes bytes text₁ budget₁ out₁ ≡ writtenBytes bytes text₂ budget₂ out₂) ↔ EqualModulo P f g
   same-bytes-iff text₁ text₂ f g x y budget₁ budget₂ out₁ out₂ a b =
-      let (M, m, d) = short-answered bytes P taken text₁ f x budget₁ (length out₁) a in
-      let (N, n, e) = short-answered bytes P taken text₂ g y budget₂ (length out₂) b in
+      let (M, m, d) = short-answered bytes P package-accepted-as text₁ f x budget₁ (length out₁) a in
+      let (N, n, e) = short-answered bytes P package-accepted-as text₂ g y budget₂ (length out₂) b in
       let (s, k) = ran-short text₁ f x budget₁ M m d in
       let (t, l) = ran-short text₂ g y budget₂ N n e in
-      let u = written-is bytes P taken text₁ f x budget₁ M m d out₁ a in
-      let v = written-is bytes P taken text₂ g y budget₂ N n e out₂ b in
+      let u = written-is bytes P package-accepted-as text₁ f x budget₁ M m d out₁ a in
+      let v = written-is bytes P package-accepted-as text₂ g y budget₂ N n e out₂ b in
       let i = short-iff (readable-field P readable) word-order-admissible basis-accepted s t in (
         λ q. i .0 (text-unique (P .head .p) (P .head .letters) (bounds .most) (bounds .letters) M N (s .written) k (t .written) l (sym u ∙ q ∙ v)),
         λ q. u ∙ ap writeFormula (i .1 q) ∙ sym v,

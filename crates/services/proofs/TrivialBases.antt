@@ -5,9 +5,9 @@ use mathlib.Core.List.{List, [], _∷_}
 use Prim.Native.Nat.{ℕ, suc, _+_, _≤_}
 use native.Mathlib.Nat.{zero-add}
 use native.Mathlib.Omega.{arith}
-use lib.Dec.{eqb, ltb}
+use lib.Dec.{ltb}
 use lib.ListN.{length}
-use borrow.Author.Tests.{eq-eqb, le-ltb, ltb-true}
+use borrow.Author.Tests.{eq-eqb, le-ltb}
 use Rattle.field.specs.Field.{Operations, Field, fieldOf}
 use Rattle.field.proofs.Derived.{red-zero}
 use Rattle.words.specs.declared.Comparison.{Comparison}
@@ -22,22 +22,18 @@ use Rattle.algebra.specs.Ideal.{family}
 use Rattle.algebra.specs.Groebner.{lead}
 use Rattle.algebra.specs.Spot.{firstBegins, nowhere, found, spotAt, spotFrom, spot, Target, reduced, reducible, targetOf, target}
 use Rattle.algebra.specs.Steps.{takeAway, lineAt, stepped, Ended, answer, over, spent, onward, run}
-use Rattle.package.specs.declared.Limits.{Limits}
-use Rattle.package.specs.Bounds.{coefFits, wordFits}
-use Rattle.words.specs.Below.{isBelow}
-use Rattle.package.specs.Formula.{rowFits}
 use Rattle.package.specs.Package.{Package}
-use Rattle.package.specs.Readable.{RowsInOrder, noRows, rowThen}
+use Rattle.package.specs.Readable.{RowsInOrder}
 use Rattle.package.specs.Writing.{writeFormula}
 use Rattle.package.proofs.FormulaTexts.{formula-reads}
 use Rattle.package.proofs.PackageTexts.{reads-written}
 use Rattle.acceptance.specs.Content.{basis}
-use Rattle.acceptance.proofs.LineFacts.{both}
 use Rattle.acceptance.proofs.ReadableContent.{readable-field}
 use Rattle.acceptance.specs.Reduction.{formulaLimits, reductionOf, formulaReduced, packageReduced}
 use Rattle.services.specs.Demands.{AcceptedAs, ReadAs}
 use Rattle.services.specs.Examples.{Shortens}
 use Rattle.services.proofs.Answers.{acceptance-is}
+use Rattle.services.proofs.FormulaSize.{formula-size}
 use Rattle.services.proofs.Rows.{shortens}
 
 -- No leading word stands in a word, so nothing is reducible.
@@ -104,19 +100,6 @@ module _ {K : Operations} (F : Field K) {O : Order} (A : Admissible O) where
       after : Term → ℕ → ℕ → Ended
       after u i n = next (ltb limit (length (stepped K O basisOne (t ∷ f) u i n))) (stepped K O basisOne (t ∷ f) u i n)
 
--- A formula that reads has at most 48 terms.
-rows-few : (p letters : ℕ) (m : Limits) (v : Word) (n : ℕ) (ts : Poly) → n ≤ m .terms → RowsInOrder p letters m v n ts → n + length ts ≤ m .terms
-unfolding rowFits
-rows-few p letters m v n [] h noRows = omega arith
-rows-few p letters m v n (t ∷ ts) h (rowThen e os) =
-    let fall : Bool = elim (eqb n 0) [ true ↦ true | false ↦ isBelow (t .word) v ] in
-    let room : Bool = elim (ltb n (m .terms)) [ false ↦ false | true ↦ fall ] in
-    let (a, e₁) = both (coefFits p (t .coef)) (elim (wordFits (m .len) letters (t .word)) [ false ↦ false | true ↦ room ]) e in
-    let (b, e₂) = both (wordFits (m .len) letters (t .word)) room e₁ in
-    let (d, e₃) = both (ltb n (m .terms)) fall e₂ in
-    let l = ltb-true n (m .terms) d in
-    let i = rows-few p letters m (t .word) (suc n) ts (omega arith) os in omega arith
-
 module _ (bytes : List ℕ) (P : Package) (acc : AcceptedAs bytes P) where
   module _ (text : List ℕ) (f : Poly) (reads : ReadAs P text f) where
     -- The formula's bytes are the text of its terms, which are in order.
@@ -135,7 +118,7 @@ module _ (bytes : List ℕ) (P : Package) (acc : AcceptedAs bytes P) where
     unfolding packageReduced formulaReduced reductionOf
     one-empties e =
         let F = readable-field P (reads-written P bytes (acc .reads) .0) in
-        let l = rows-few (P .head .p) (P .head .letters) formulaLimits [] 0 f (omega arith) (formula-text .0) in
+        let l = formula-size P text f reads in
         shortens (acceptance-is bytes P acc) (ap (formulaReduced P (length f)) reads
         ∙ ap (λ (ps : List Poly). reductionOf (length f) (run 512 (fieldOf (P .head .p)) wordOrder ps (length f) 0 f)) e
         ∙ ap (reductionOf (length f)) (run-one F word-order-admissible 512 f 0 (omega arith) ∙ ap (answer []) (zero-add (length f)))) refl

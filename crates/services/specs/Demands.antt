@@ -7,16 +7,17 @@
 use mathlib.Core.Path.{_≡_}
 use mathlib.Core.Logic.{_↔_, _≢_, _⊎_}
 use mathlib.Core.List.{List, [], _∷_, _++_, List·Memᴰ}
-use Prim.Native.Nat.{ℕ, _≤_}
+use Prim.Native.Nat.{ℕ, suc, _≤_, _<_}
 use lib.ListN.{length, take, drop}
 use Rattle.field.specs.Field.{fieldOf}
 use Rattle.words.specs.Word.{Letter}
 use Rattle.words.specs.Order.{wordOrder}
-use Rattle.algebra.specs.Poly.{Poly, InLetters, sub}
-use Rattle.algebra.specs.Ideal.{Line, family, InIdeal}
+use Rattle.algebra.specs.Poly.{Term, Poly, InLetters, sub}
+use Rattle.algebra.specs.Ideal.{family, InIdeal}
 use Rattle.algebra.specs.Short.{Short}
-use Rattle.algebra.specs.Steps.{Sequence}
-use Rattle.package.specs.Formula.{formula, readFormula}
+use Rattle.algebra.specs.StepRule.{StepRule, NoStep}
+use Rattle.algebra.specs.Steps.{stepped}
+use Rattle.package.specs.Formula.{wrongAt, formula, readFormula}
 use Rattle.package.specs.Package.{Package, read, readPackage}
 use Rattle.package.specs.Readable.{Readable}
 use Rattle.package.specs.Writing.{writeFormula, writePackage}
@@ -24,7 +25,7 @@ use Rattle.overlaps.specs.Overlaps.{Overlap, IsOverlap, Rising, leads}
 use Rattle.overlaps.specs.Listing.{overlapNames, overlapLines}
 use Rattle.acceptance.specs.Content.{relations, basis}
 use Rattle.acceptance.specs.Facts.{Acceptable}
-use Rattle.acceptance.specs.Reduction.{formulaLimits}
+use Rattle.acceptance.specs.Reduction.{formulaLimits, Reduction, refusedBy, shortForm, reduction}
 use Rattle.services.specs.declared.Checked.{Checked}
 use Rattle.services.specs.declared.Listed.{Listed}
 use Rattle.services.specs.declared.Shortened.{Shortened}
@@ -45,6 +46,10 @@ ReadAs P text f = readFormula (P .head .p) (P .head .letters) formulaLimits text
 -- A text at the start of an output slice; the bytes after it keep their old values.
 abbrev pub atStart : List ℕ → List ℕ → List ℕ
 atStart text out = text ++ drop (length text) out
+
+-- A refusal of the short form service: number and place, and both counts 0.
+abbrev pub refusedShort : ℕ → ℕ → Shortened
+refusedShort n k = record { number = n; place = k; steps = 0; written = 0 }
 
 -- ==== Demand 1: a service answers, or it refuses and changes nothing
 
@@ -113,37 +118,71 @@ pub record ListsOverlaps (P : Package) (a : Listed) (before after : List ℕ) : 
   pub size : a .written ≡ length (listText P rows)
   pub output : after ≡ atStart (listText P rows) before
 
--- m steps by 01's rule bring f to N, where nothing is reducible. The lines are what the steps subtract, in order.
-pub record StepsTo (P : Package) (f N : Poly) (m : ℕ) : Type 0 where
-  pub lines : List Line
-  pub sequence : Sequence (fieldOf (P .head .p)) wordOrder (basis P) f lines N
-  pub count : m ≡ length lines
+-- m steps by 01's rule lead from f to N. Each is the step that the rule names (StepRule: the greatest word that has a leading word inside, at the leftmost
+-- place); `stepped` subtracts that word's coefficient × left × basis polynomial × right.
+pub data StepsTo (P : Package) : Poly → ℕ → Poly → Type 0 where
+  unmoved : {f : Poly} → StepsTo P f 0 f
+  stepThen : {f N : Poly} {m : ℕ} {t : Term} {i n : ℕ} → StepRule wordOrder (basis P) f t i n
+      → StepsTo P (stepped (fieldOf (P .head .p)) wordOrder (basis P) f t i n) m N → StepsTo P f (suc m) N
+
+-- No polynomial on the way from f, through m steps, has over 512 terms.
+abbrev pub AtMost512 : Package → Poly → ℕ → Type 0
+AtMost512 P f m = (k : ℕ) (g : Poly) → k ≤ m → StepsTo P f k g → length g ≤ 512
+
+-- How the steps from f end within the budget, with what the formula services say of it before they judge 19.
+pub data StepsEnd (P : Package) (f : Poly) (budget : ℕ) : Reduction → Type 0 where
+  -- after m steps, which the budget allows, no word has a leading word inside: the short form and its step count
+  nothingLeft : {N : Poly} {m : ℕ} → StepsTo P f m N → NoStep (basis P) N → m ≤ budget → AtMost512 P f m → StepsEnd P f budget (shortForm N m)
+  -- a step that the budget allows is the first to leave over 512 terms: 17 with the step
+  tooMany : {g : Poly} {m : ℕ} → StepsTo P f (suc m) g → 512 < length g → suc m ≤ budget → AtMost512 P f m → StepsEnd P f budget (refusedBy 17 (suc m))
+  -- as many steps as the budget has are made, and one is left: 18 with the budget
+  budgetUsed : {g : Poly} → StepsTo P f budget g → (NoStep (basis P) g → ⊥) → AtMost512 P f budget → StepsEnd P f budget (refusedBy 18 budget)
+
+-- f comes to N in m steps, where no step is left, and by the rule there is no other end and no other number of steps.
+pub record OnlySteps (P : Package) (f : Poly) (m : ℕ) (N : Poly) : Type 0 where
+  pub steps : StepsTo P f m N
+  pub last : NoStep (basis P) N
+  pub only : (k : ℕ) (M : Poly) → StepsTo P f k M → NoStep (basis P) M → (k ≡ m) × (M ≡ N)
 
 -- The short form service answers with the end of the steps from f: it tells how many there are, and that end, written as a formula, is at the start of
 -- the output slice.
 pub record ShortensBySteps (P : Package) (f : Poly) (a : Shortened) (before after : List ℕ) : Type 0 where
   pub form : Poly
-  pub steps : StepsTo P f form (a .steps)
+  pub steps : OnlySteps P f (a .steps) form
   pub size : a .written ≡ length (writeFormula form)
   pub output : after ≡ atStart (writeFormula form) before
 
 -- Membership answers with the steps from f: it tells how many there are, and yes (1) where their end is zero, no (0) where it is not.
 pub record DecidesBySteps (P : Package) (f : Poly) (a : Membership) : Type 0 where
   pub form : Poly
-  pub steps : StepsTo P f form (a .steps)
+  pub steps : OnlySteps P f (a .steps) form
   pub yes : form ≡ [] → a .member ≡ 1
   pub no : form ≢ [] → a .member ≡ 0
 
 -- Demand 2. A package is accepted exactly when document 01's facts hold of it; every service refuses exactly when 01 says so, with the number and place
 -- given there; and the overlap list, each rewriting step, the step count, the short form and the yes or no of membership are those of 01's definitions.
 --
--- Numbers and places: the definitions in Services.antt are 01's order of refusals, line by line, and each service's contract is equality with them.
--- Each step: `Sequence` (algebra/specs/Steps.antt) makes 01's step at 01's word and place. The fields below say the rest.
+-- Numbers and places of the check and of listing are those of their definitions (package/specs/Package.antt for 1 to 7, acceptance/specs/Check.antt for 8
+-- to 15: the first refusal in 01's order), since each contract is equality with Services.antt. The fields below say the rest, in 01's words.
 pub record Demand2 : Type 0 where
   pub accepted : (bytes : List ℕ) → (checkedAs bytes .number ≡ 0) ↔ FactsHold bytes
   pub check-count : (bytes : List ℕ) (P : Package) → AcceptedAs bytes P → (os : List Overlap) × OverlapsOf P os × (checkedAs bytes .overlaps ≡ length os)
   pub list : (bytes out : List ℕ) → listedAs bytes (length out) .number ≡ 0
       → (P : Package) × (readPackage bytes ≡ read P) × ListsOverlaps P (listedAs bytes (length out)) out (listedInto bytes out)
+  -- `reduction` is what both formula services judge before 19: the whole package as the check does, then 16 with the formula's line, then 17 and 18 as
+  -- steps go
+  pub package-first : (bytes text : List ℕ) (budget : ℕ) → checkedAs bytes .number ≢ 0
+      → reduction bytes text budget ≡ refusedBy (checkedAs bytes .number) (checkedAs bytes .place)
+  pub formula-next : (bytes text : List ℕ) (budget : ℕ) (P : Package) (line : ℕ) → AcceptedAs bytes P
+      → readFormula (P .head .p) (P .head .letters) formulaLimits text ≡ wrongAt line → reduction bytes text budget ≡ refusedBy 16 line
+  pub steps : (bytes text : List ℕ) (budget : ℕ) (P : Package) (f : Poly) → AcceptedAs bytes P → ReadAs P text f
+      → (r : Reduction) → (reduction bytes text budget ≡ r) ↔ StepsEnd P f budget r
+  -- its refusals are those of both services; the short form service adds 19 with the bytes required
+  pub refusals : (bytes text : List ℕ) (budget n k : ℕ) → reduction bytes text budget ≡ refusedBy n k → (room : ℕ)
+      → (shortenedAs bytes text budget room ≡ refusedShort n k) × (membershipAs bytes text budget ≡ record { number = n; place = k; steps = 0; member = 0 })
+  pub room-last : (bytes text : List ℕ) (budget m : ℕ) (N : Poly) → reduction bytes text budget ≡ shortForm N m
+      → (room : ℕ) → room < length (writeFormula N) → shortenedAs bytes text budget room ≡ refusedShort 19 (length (writeFormula N))
+  -- what they answer
   pub short : (bytes text : List ℕ) (budget : ℕ) (out : List ℕ) → shortenedAs bytes text budget (length out) .number ≡ 0
       → (P : Package) × (f : Poly) × AcceptedAs bytes P × ReadAs P text f
       × ShortensBySteps P f (shortenedAs bytes text budget (length out)) out (shortenedInto bytes text budget out)

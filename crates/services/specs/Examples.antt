@@ -13,9 +13,8 @@ use Rattle.text.specs.Ascii.{ascii}
 use Rattle.text.specs.Word.{word, wordOf}
 use Rattle.package.specs.Package.{Package}
 use Rattle.package.specs.Examples.{text, packageE}
-use Rattle.services.specs.declared.Shortened.{Shortened}
 use Rattle.services.specs.Services.{checkedAs, listedAs, listedInto, shortenedAs, shortenedInto, membershipAs}
-use Rattle.services.specs.Demands.{AcceptedAs, ReadAs, atStart}
+use Rattle.services.specs.Demands.{AcceptedAs, ReadAs, atStart, refusedShort}
 
 -- A row: the bytes of a package, and texts quoted byte for byte.
 pub data Row : Type 0 where
@@ -35,10 +34,6 @@ pub data Row : Type 0 where
   keptRow : List ℕ → Row
   -- under the package every formula comes to zero
   zeroRow : List ℕ → Row
-
--- A refusal of the short form service.
-abbrev pub refusedShort : ℕ → ℕ → Shortened
-refusedShort n k = record { number = n; place = k; steps = 0; written = 0 }
 
 -- Under the package the formula comes to the short form N in m steps. This says all that the short form service answers and writes for them:
 -- with a budget of m or more and room, success, m steps, the length of N, and N written; with a lesser budget 18 at the budget; with less
