@@ -1,8 +1,9 @@
--- What listing into 65,536 bytes answers and leaves there: the list where its number is 0, else nothing is written.
+-- What is printed is the list or the line of the refusal: listing into 65,536 bytes leaves the list there where its number is 0, else it
+-- writes nothing.
 use mathlib.Core.Path.{_≡_, refl, sym, ap, subst, _∙_}
 use mathlib.Core.Bool.{Bool, true, false}
-use mathlib.Core.List.{List, []}
-use Prim.Native.Nat.{ℕ, suc, _≤_}
+use mathlib.Core.List.{List}
+use Prim.Native.Nat.{ℕ, _≤_}
 use native.Mathlib.Omega.{arith}
 use borrow.Author.Tests.{ltb-false, eq-eqb, ne-eqb}
 use lib.Dec.{ltb}
@@ -16,44 +17,43 @@ use Rattle.vaultgarlic.specs.declared.Listed.{Listed}
 use Rattle.vaultgarlic.specs.Services.{wordsListed, fitted, listAnswer, listOutput, listable, listedAs, listedInto}
 use Rattle.printing.specs.Printed.{refusedLine, listOf, printedFor, printedText}
 
-some : {n : ℕ} → suc n ≡ 0 → ⊥
-some e = omega arith
+-- the list stands at the start of the slice where the number is 0
+ListWritten : List ℕ → Listed → List ℕ → List ℕ → Type 0
+ListWritten out a left text = a .number ≡ 0 → (a .written ≡ length text) × (left ≡ sets out 0 text) × (a .written ≤ length out)
 
-Written : List ℕ → Listed → List ℕ → List ℕ → Type 0
-Written out a left text = a .number ≡ 0 → (a .written ≡ length text) × (left ≡ sets out 0 text) × (a .written ≤ length out)
+-- the slice is as it was where the number is another
+SliceKept : List ℕ → Listed → List ℕ → Type 0
+SliceKept out a left = (a .number ≡ 0 → ⊥) → left ≡ out
 
-Kept : List ℕ → Listed → List ℕ → Type 0
-Kept out a left = (a .number ≡ 0 → ⊥) → left ≡ out
-
-fits : (t : List ℕ) (k : ℕ) (b : Bool) (out : List ℕ) → ltb (length out) (length t) ≡ b
-    → Written out
+fitted-written : (t : List ℕ) (k : ℕ) (b : Bool) (out : List ℕ) → ltb (length out) (length t) ≡ b
+    → ListWritten out
     (elim b [ true ↦ record { number = 19; place = length t; overlaps = 0; written = 0 } | false ↦ record { number = 0; place = 0; overlaps = k; written = length t } ])
     (elim b [ true ↦ out | false ↦ sets out 0 t ]) t
-unfolding Written
-fits t k true out e z = elim (some z) [ ]
-fits t k false out e z = (refl, refl, ltb-false _ _ e)
+unfolding ListWritten
+fitted-written t k true out e z = absurd (omega arith)
+fitted-written t k false out e z = (refl, refl, ltb-false _ _ e)
 
-misses : (t : List ℕ) (k : ℕ) (b : Bool) (out : List ℕ)
-    → Kept out
+unfitted-kept : (t : List ℕ) (k : ℕ) (b : Bool) (out : List ℕ)
+    → SliceKept out
     (elim b [ true ↦ record { number = 19; place = length t; overlaps = 0; written = 0 } | false ↦ record { number = 0; place = 0; overlaps = k; written = length t } ])
     (elim b [ true ↦ out | false ↦ sets out 0 t ])
-unfolding Kept
-misses t k true out z = refl
-misses t k false out z = elim (z refl) [ ]
+unfolding SliceKept
+unfitted-kept t k true out z = refl
+unfitted-kept t k false out z = absurd (z refl)
 
-outcome-listed : (o : Outcome) (out : List ℕ) → Written out (listAnswer (length out) o) (listOutput out o) (listOf o)
-unfolding Written listAnswer listOutput listOf wordsListed fitted
+outcome-listed : (o : Outcome) (out : List ℕ) → ListWritten out (listAnswer (length out) o) (listOutput out o) (listOf o)
+unfolding ListWritten listAnswer listOutput listOf wordsListed fitted
 outcome-listed (refused n k) out = λ z. (refl, refl, omega arith)
 outcome-listed (read P) out =
     let t = overlapText (leads (basis P)) in
-    fits t (length (overlaps (leads (basis P)))) (ltb (length out) (length t)) out refl
+    fitted-written t (length (overlaps (leads (basis P)))) (ltb (length out) (length t)) out refl
 
-outcome-kept : (o : Outcome) (out : List ℕ) → Kept out (listAnswer (length out) o) (listOutput out o)
-unfolding Kept listAnswer listOutput wordsListed fitted
+outcome-kept : (o : Outcome) (out : List ℕ) → SliceKept out (listAnswer (length out) o) (listOutput out o)
+unfolding SliceKept listAnswer listOutput wordsListed fitted
 outcome-kept (refused n k) out = λ z. refl
 outcome-kept (read P) out =
     let t = overlapText (leads (basis P)) in
-    misses t (length (overlaps (leads (basis P)))) (ltb (length out) (length t)) out
+    unfitted-kept t (length (overlaps (leads (basis P)))) (ltb (length out) (length t)) out
 
 for-list : (a : Listed) (t : List ℕ) → a .number ≡ 0 → printedFor a t ≡ t
 unfolding printedFor
@@ -66,7 +66,7 @@ for-refusal a t z = rw (printedFor, ne-eqb (a .number) 0 z)
 -- Number 0: the list was written, and is what is printed.
 pub list-printed : (bytes out left : List ℕ) (a : Listed) → length out ≡ 65536 → a ≡ listedAs bytes (length out) → left ≡ listedInto bytes out → a .number ≡ 0
     → ((a .written ≡ length (printedText bytes)) × (a .written ≤ 65536)) × (left ≡ sets out 0 (printedText bytes))
-unfolding printedText printedFor listedAs listedInto Written
+unfolding printedText printedFor listedAs listedInto ListWritten
 list-printed bytes out left a s e f z =
     let w = outcome-listed (listable bytes) out (ap (λ x. x .number) (sym e) ∙ z) in
     let t : printedText bytes ≡ listOf (listable bytes) = for-list (listedAs bytes 65536) (listOf (listable bytes)) (ap (λ x. x .number) (sym (e ∙ ap (listedAs bytes) s)) ∙ z) in
@@ -75,7 +75,7 @@ list-printed bytes out left a s e f z =
 -- Another number: nothing was written, and the line of the refusal is what is printed.
 pub refusal-printed : (bytes out left : List ℕ) (a : Listed) → length out ≡ 65536 → a ≡ listedAs bytes (length out) → left ≡ listedInto bytes out → (a .number ≡ 0 → ⊥)
     → (left ≡ out) × (refusedLine (a .number) (a .place) ≡ printedText bytes)
-unfolding printedText printedFor listedAs listedInto Kept
+unfolding printedText printedFor listedAs listedInto SliceKept
 refusal-printed bytes out left a s e f z =
     let b : a ≡ listedAs bytes 65536 = e ∙ ap (listedAs bytes) s in
     let n : listedAs bytes 65536 .number ≡ 0 → ⊥ = λ x. z (ap (λ x. x .number) b ∙ x) in

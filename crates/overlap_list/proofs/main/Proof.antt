@@ -1,9 +1,9 @@
--- `print_standard_input`: what is printed lies within the bytes lent.
-use native.Mathlib.Omega.{arith}
-use lib.ListN.{length-take}
+-- `main`: what is printed lies within the bytes lent.
+use mathlib.Core.Path.{sym}
+use lib.Seq.{length-take-le}
 use borrow.Author.Needs.{needs}
-use Rattle.printing.proofs.print_standard_input.Statement.{statement}
-use Rattle.printing.proofs.print_standard_input.Tie as tie
+use Rattle.overlap_list.proofs.main.Statement.{statement}
+use Rattle.overlap_list.proofs.main.Tie as tie
 
 slice-aggregate-read-full : tie.Need-slice-aggregate-read-full
 slice-aggregate-read-full c = search needs
@@ -27,7 +27,7 @@ array-share-prefix-out : tie.Need-array-share-prefix-out
 array-share-prefix-out c = search needs
 
 slice-aggregate-write-all : tie.Need-slice-aggregate-write-all
-slice-aggregate-write-all c = let p = c .before .before in omega (arith, length-take (p .print-into .result) (p .print-into .last .1 .0), array-share-prefix-out (c .before))
+slice-aggregate-write-all c = sym (length-take-le _ _ (array-share-prefix-out (c .before)))
 
 write-all-requires : tie.Need-write-all-requires
 write-all-requires c κs = search needs
@@ -35,8 +35,8 @@ write-all-requires c κs = search needs
 returns : tie.Need-returns
 returns c = search needs
 
-pub print-standard-input-spec : {M : Type 1} → statement M
-print-standard-input-spec =
+pub main-spec : {M : Type 1} → statement M
+main-spec =
     tie.close
     (tie.spec
     slice-aggregate-read-full
