@@ -1,0 +1,51 @@
+-- `put_checked`: a line of three numbers.
+use mathlib.Core.Path.{_≡_, _∙_, ap}
+use mathlib.Core.List.{List, [], _∷_}
+use Prim.Native.Nat.{ℕ, _+_, _≤_}
+use native.Mathlib.Omega.{arith}
+use lib.ListN.{length}
+use lib.Seq.{sets}
+use Rattle.printing.specs.Printed.{numbersLine}
+use Rattle.vaultgarlic.specs.Services.{checkedAs}
+use Rattle.cases.specs.Answers.{checkedText}
+use Rattle.cases.proofs.AnswerStores.{three-length}
+use borrow.Author.Needs.{needs}
+use Rattle.cases.proofs.answers.put_checked.Statement.{statement}
+use Rattle.cases.proofs.answers.put_checked.Tie as tie
+
+vg-check-requires : tie.Need-vg-check-requires
+vg-check-requires c κs = search needs
+
+slice-aggregate-put-numbers : tie.Need-slice-aggregate-put-numbers
+slice-aggregate-put-numbers c = search needs
+
+put-numbers-requires : tie.Need-put-numbers-requires
+put-numbers-requires c κs =
+    let v = c .before .before in
+    let s = v .before .before .before in
+    let a = v .vg-check .result in
+    omega (arith, three-length (a .number) (a .place) (a .overlaps) (search needs) (search needs) (search needs), s .pre)
+
+same-length : tie.Need-same-length
+same-length c = search needs
+
+returns : tie.Need-returns
+unfolding checkedText
+returns c =
+    let p = c .before .before in
+    let v = p .before .before .before in
+    let s = v .before .before .before in
+    let a = v .vg-check .result in
+    let b : p .put-numbers .result ≤ length (s .args .text .now) = omega (arith, put-numbers-requires (p .before) (p .put-numbers .lifetimes), p .put-numbers .ensures .0) in
+    let e : numbersLine (a .number ∷ a .place ∷ a .overlaps ∷ []) ≡ checkedText (checkedAs (s .args .«package» .now)) = ap (λ x. checkedText x) (v .vg-check .ensures) in
+    ((p .put-numbers .ensures .0 ∙ ap (λ (x : List ℕ). s .args .at + length x) e, b), p .put-numbers .ensures .1 ∙ ap (sets (s .args .text .now) (s .args .at)) e)
+
+pub put-checked-spec : {M : Type 1} → statement M
+put-checked-spec =
+    tie.close
+    (tie.spec
+    vg-check-requires
+    slice-aggregate-put-numbers
+    put-numbers-requires
+    same-length
+    returns)
