@@ -10,19 +10,19 @@ use Rattle.text.proofs.Stores.{stored-then}
 use Rattle.printing.specs.Printed.{numbersLine, printedText}
 use Rattle.printing.proofs.NumbersLine.{numbers-length}
 use Rattle.lending.specs.Kept.{countKept}
-use Rattle.cases.specs.Answers.{outputText, programText}
+use Rattle.cases.specs.CaseTexts.{outputText, programText}
 
 -- Three, four and five numbers of 64 bits in a line.
 module _ (a b c : ℕ) (x : a < 2 ^ 64) (y : b < 2 ^ 64) (z : c < 2 ^ 64) where
-  pub three-length : length (numbersLine (a ∷ b ∷ c ∷ [])) ≤ 64
+  pub three-numbers-length : length (numbersLine (a ∷ b ∷ c ∷ [])) ≤ 64
   unfolding numbersLine
-  three-length = omega (arith, numbers-length a (b ∷ c ∷ []) x, numbers-length b (c ∷ []) y, numbers-length c [] z)
+  three-numbers-length = omega (arith, numbers-length a (b ∷ c ∷ []) x, numbers-length b (c ∷ []) y, numbers-length c [] z)
 
-  pub four-length : (n : ℕ) → n < 2 ^ 64 → length (numbersLine (n ∷ a ∷ b ∷ c ∷ [])) ≤ 85
-  four-length n h = omega (arith, numbers-length n (a ∷ b ∷ c ∷ []) h, three-length)
+  pub four-numbers-length : (n : ℕ) → n < 2 ^ 64 → length (numbersLine (n ∷ a ∷ b ∷ c ∷ [])) ≤ 85
+  four-numbers-length n h = omega (arith, numbers-length n (a ∷ b ∷ c ∷ []) h, three-numbers-length)
 
-  pub five-length : (m n : ℕ) → m < 2 ^ 64 → n < 2 ^ 64 → length (numbersLine (m ∷ n ∷ a ∷ b ∷ c ∷ [])) ≤ 106
-  five-length m n g h = omega (arith, numbers-length m (n ∷ a ∷ b ∷ c ∷ []) g, four-length n h)
+  pub five-numbers-length : (m n : ℕ) → m < 2 ^ 64 → n < 2 ^ 64 → length (numbersLine (m ∷ n ∷ a ∷ b ∷ c ∷ [])) ≤ 106
+  five-numbers-length m n g h = omega (arith, numbers-length m (n ∷ a ∷ b ∷ c ∷ []) g, four-numbers-length n h)
 
 -- Two texts, stored one behind the other.
 pub stored-both : (l l₁ l₂ : List ℕ) (at a b : ℕ) (xs ys : List ℕ) → (a ≡ at + length xs) × (l₁ ≡ sets l at xs) → (b ≡ a + length ys) × (l₂ ≡ sets l₁ a ys)

@@ -8,9 +8,10 @@ use lib.Seq.{sets}
 use Rattle.vaultgarlic.specs.declared.Listed.{Listed}
 use Rattle.vaultgarlic.specs.declared.Shortened.{Shortened}
 use Rattle.vaultgarlic.specs.Services.{checkedAs, listedAs, listedInto, shortenedAs, shortenedInto, membershipAs}
-use Rattle.cases.specs.Head.{roomSaid, budgetSaid}
-use Rattle.cases.specs.Answers.{checkedText, membershipText, outputText, blank, listedText, shortenedText, programText, answerText}
+use Rattle.cases.specs.HeadLine.{roomSaid, budgetSaid}
+use Rattle.cases.specs.CaseTexts.{checkedText, membershipText, outputText, tildes, listedText, shortenedText, programText, answerText}
 
+-- The letter, and the text that each one asks for.
 module _ (head bytes text : List ℕ) where
   abbrev letter : ℕ
   letter = getD head 0 0
@@ -37,13 +38,13 @@ module _ (head bytes text : List ℕ) where
   answer-program c l s m = rw (answerText, ne-eqb letter 67 c, ne-eqb letter 76 l, ne-eqb letter 83 s, ne-eqb letter 77 m)
 
 -- Listing's answer and its output slice give listing's text.
-pub listed-text : (bytes out₀ out : List ℕ) (room n : ℕ) (a : Listed) → n ≡ room → out₀ ≡ blank → a ≡ listedAs bytes n → out ≡ listedInto bytes (take n out₀) ++ drop n out₀
+pub listed-text : (bytes out₀ out : List ℕ) (room n : ℕ) (a : Listed) → n ≡ room → out₀ ≡ tildes → a ≡ listedAs bytes n → out ≡ listedInto bytes (take n out₀) ++ drop n out₀
     → outputText (a .number) (a .place) (a .overlaps) (a .written) out ≡ listedText bytes room
 unfolding listedText
 listed-text bytes out₀ out room n a p q e f = rw (f, e, q, p)
 
 -- The short form service's answer and its output slice give its text.
-pub shortened-text : (bytes text out₀ out : List ℕ) (budget room m n : ℕ) (a : Shortened) → m ≡ budget → n ≡ room → out₀ ≡ blank → a ≡ shortenedAs bytes text m n
+pub shortened-text : (bytes text out₀ out : List ℕ) (budget room m n : ℕ) (a : Shortened) → m ≡ budget → n ≡ room → out₀ ≡ tildes → a ≡ shortenedAs bytes text m n
     → out ≡ shortenedInto bytes text m (take n out₀) ++ drop n out₀
     → outputText (a .number) (a .place) (a .steps) (a .written) out ≡ shortenedText bytes text budget room
 unfolding shortenedText

@@ -12,7 +12,7 @@ use lib.Seq.{drop-cons}
 use borrow.Author.Tests.{ltb-false}
 use Rattle.text.specs.Pieces.{part}
 use Rattle.text.proofs.Digits.{pow, pow-more}
-use Rattle.cases.specs.Head.{digit, said}
+use Rattle.cases.specs.HeadLine.{digit, said}
 
 -- one digit more
 module _ (f : List ℕ) (i n : ℕ) where

@@ -1,2 +1,2 @@
-pub mod Head
-pub mod Answers
+pub mod HeadLine
+pub mod CaseTexts

@@ -3,7 +3,7 @@
 use crate::head;
 use crate::outputs;
 use printing::print_into;
-use printing::put_numbers;
+use printing::put_numbers_line;
 use textwriting::write::put_bytes;
 use vaultgarlic::check::vg_check;
 use vaultgarlic::member::vg_member;
@@ -12,8 +12,8 @@ ghost use Prim.Native.Nat.{_+_, _≤_};
 ghost use lib.ListN.{length};
 ghost use lib.Seq.{sets};
 ghost use Rattle.vaultgarlic.specs.Services.{checkedAs, membershipAs};
-ghost use Rattle.cases.specs.Head.{budgetSaid};
-ghost use Rattle.cases.specs.Answers.{checkedText, membershipText, programText, answerText, caseText};
+ghost use Rattle.cases.specs.HeadLine.{budgetSaid};
+ghost use Rattle.cases.specs.CaseTexts.{checkedText, membershipText, programText, answerText, caseText};
 
 // The check of the package.
 fn put_checked(text: &mut [u8], at: usize, package: &[u8]) -> usize
@@ -22,7 +22,7 @@ fn put_checked(text: &mut [u8], at: usize, package: &[u8]) -> usize
     ensures { λ _. ⌜ now (text .exit) ≡ sets (now (text .entry)) at (checkedText (checkedAs (now («package» .entry)))) ⌝ }
 {
     let a = vg_check(package);
-    put_numbers(text, at, &[a.number, a.place, a.overlaps])
+    put_numbers_line(text, at, &[a.number, a.place, a.overlaps])
 }
 
 // Membership of the formula.
@@ -33,7 +33,7 @@ fn put_membership(text: &mut [u8], at: usize, line: &[u8], package: &[u8], formu
     ensures { λ _. ⌜ now (text .exit) ≡ sets (now (text .entry)) at (membershipText (membershipAs (now («package» .entry)) (now (formula .entry)) (budgetSaid (now (line .entry))))) ⌝ }
 {
     let a = vg_member(package, formula, head::budget(line));
-    put_numbers(text, at, &[a.number, a.place, a.steps, a.member])
+    put_numbers_line(text, at, &[a.number, a.place, a.steps, a.member])
 }
 
 // What the program overlap_list prints.

@@ -6,7 +6,7 @@ use overlaps::shared::lesser;
 ghost use mathlib.Core.Path.{_≡_};
 ghost use Prim.Native.Nat.{_≤_};
 ghost use lib.ListN.{length};
-ghost use Rattle.cases.specs.Head.{digit, said, roomSaid, packageSaid, formulaSaid, budgetSaid};
+ghost use Rattle.cases.specs.HeadLine.{digit, said, roomSaid, packageSaid, formulaSaid, budgetSaid};
 
 // The number that a digit says; 0 for any other byte.
 fn digit_value(d: u8) -> usize

@@ -2,4 +2,4 @@
 
 pub mod answers;
 pub mod head;
-pub mod outputs;
+mod outputs;

@@ -4,14 +4,14 @@ use crate::head;
 use lending::calls::list_into;
 use lending::calls::shorten_into;
 use lending::kept::count_kept;
-use printing::put_numbers;
+use printing::put_numbers_line;
 use textwriting::write::put_bytes;
 ghost use mathlib.Core.Path.{_≡_};
 ghost use Prim.Native.Nat.{_+_, _≤_};
 ghost use lib.ListN.{length, take};
 ghost use lib.Seq.{sets};
-ghost use Rattle.cases.specs.Head.{roomSaid, budgetSaid};
-ghost use Rattle.cases.specs.Answers.{outputText, listedText, shortenedText};
+ghost use Rattle.cases.specs.HeadLine.{roomSaid, budgetSaid};
+ghost use Rattle.cases.specs.CaseTexts.{outputText, listedText, shortenedText};
 
 // The first n bytes of b, all where it has fewer, written to text from the place at on. The answer is the place behind them.
 fn put_first(text: &mut [u8], at: usize, b: &[u8], n: usize) -> usize
@@ -41,7 +41,7 @@ fn put_output(
 {
     let n = written as usize;
     let kept = count_kept(out, n) as u64;
-    let end = put_numbers(text, at, &[number, place, count, written, kept]);
+    let end = put_numbers_line(text, at, &[number, place, count, written, kept]);
     put_first(text, end, out, n)
 }
 

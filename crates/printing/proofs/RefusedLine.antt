@@ -11,9 +11,9 @@ use Rattle.printing.specs.Printed.{numbersLine, refusedLine}
 use Rattle.printing.proofs.NumbersLine.{numbers-length}
 
 -- Number and place have at most twenty digits each.
-pub pair-length : (n k : ℕ) → n < 2 ^ 64 → k < 2 ^ 64 → length (numbersLine (n ∷ k ∷ [])) ≤ 43
+pub two-numbers-length : (n k : ℕ) → n < 2 ^ 64 → k < 2 ^ 64 → length (numbersLine (n ∷ k ∷ [])) ≤ 43
 unfolding numbersLine
-pair-length n k h g = omega (arith, numbers-length n (k ∷ []) h, numbers-length k [] g)
+two-numbers-length n k h g = omega (arith, numbers-length n (k ∷ []) h, numbers-length k [] g)
 
 pub refused-length : (a b n k : ℕ) → a ≡ 7 → b ≡ a + length (numbersLine (n ∷ k ∷ [])) → b ≡ length (refusedLine n k)
 unfolding refusedLine

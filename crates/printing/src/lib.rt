@@ -11,7 +11,7 @@ ghost use lib.Seq.{sets};
 ghost use Rattle.printing.specs.Printed.{numbersLine, refusedLine, printedText};
 
 // A line of numbers, each behind one space, written to out from the place at on. The answer is the place behind the line's end.
-pub fn put_numbers(out: &mut [u8], at: usize, ns: &[u64]) -> usize
+pub fn put_numbers_line(out: &mut [u8], at: usize, ns: &[u64]) -> usize
     requires { ⌜ at + length (numbersLine (now ns)) ≤ length (now out) ⌝ }
     ensures { λ r. ⌜ r ≡ at + length (numbersLine (now (ns .entry))) ⌝ }
     ensures { λ _. ⌜ now (out .exit) ≡ sets (now (out .entry)) at (numbersLine (now (ns .entry))) ⌝ }
@@ -34,7 +34,7 @@ fn put_refused(out: &mut [u8], number: u64, place: u64) -> usize
     ensures { λ _. ⌜ now (out .exit) ≡ sets (now (out .entry)) 0 (refusedLine number place) ⌝ }
 {
     let at = put_bytes(out, 0, b"refused");
-    put_numbers(out, at, &[number, place])
+    put_numbers_line(out, at, &[number, place])
 }
 
 // What is printed for a package, written to the 65,536 bytes lent, from their beginning on: the list, or the line of the refusal. The

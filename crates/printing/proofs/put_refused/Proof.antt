@@ -1,7 +1,7 @@
 -- `put_refused`: the word, and behind it the number and the place.
 use Prim.Native.Nat.{_≤_}
 use native.Mathlib.Omega.{arith}
-use Rattle.printing.proofs.RefusedLine.{pair-length, refused-length, refused-stored}
+use Rattle.printing.proofs.RefusedLine.{two-numbers-length, refused-length, refused-stored}
 use borrow.Author.Needs.{needs}
 use Rattle.printing.proofs.put_refused.Statement.{statement}
 use Rattle.printing.proofs.put_refused.Tie as tie
@@ -12,14 +12,14 @@ slice-aggregate-put-bytes c = search needs
 put-bytes-requires : tie.Need-put-bytes-requires
 put-bytes-requires c κs = search needs
 
-slice-aggregate-put-numbers : tie.Need-slice-aggregate-put-numbers
-slice-aggregate-put-numbers c = search needs
+slice-aggregate-put-numbers-line : tie.Need-slice-aggregate-put-numbers-line
+slice-aggregate-put-numbers-line c = search needs
 
-put-numbers-requires : tie.Need-put-numbers-requires
-put-numbers-requires c κs =
+put-numbers-line-requires : tie.Need-put-numbers-line-requires
+put-numbers-line-requires c κs =
     let p = c .before .before .before .before in
     let s = p .before .before .before .before in
-    omega (arith, pair-length (s .args .number) (s .args .place) (s .fits .number .fits) (s .fits .place .fits))
+    omega (arith, two-numbers-length (s .args .number) (s .args .place) (s .fits .number .fits) (s .fits .place .fits))
 
 same-length : tie.Need-same-length
 same-length c = search needs
@@ -31,9 +31,9 @@ returns c =
     let s = p .before .before .before .before in
     let n = s .args .number in
     let k = s .args .place in
-    let b : q .put-numbers .result ≤ 50 = omega (arith, pair-length n k (s .fits .number .fits) (s .fits .place .fits), q .put-numbers .ensures .0, p .put-bytes .ensures .0) in (
-      (refused-length _ _ n k (p .put-bytes .ensures .0) (q .put-numbers .ensures .0), b),
-      refused-stored _ _ _ _ n k (p .put-bytes .ensures) (q .put-numbers .ensures .1),
+    let b : q .put-numbers-line .result ≤ 50 = omega (arith, two-numbers-length n k (s .fits .number .fits) (s .fits .place .fits), q .put-numbers-line .ensures .0, p .put-bytes .ensures .0) in (
+      (refused-length _ _ n k (p .put-bytes .ensures .0) (q .put-numbers-line .ensures .0), b),
+      refused-stored _ _ _ _ n k (p .put-bytes .ensures) (q .put-numbers-line .ensures .1),
     )
 
 pub put-refused-spec : {M : Type 1} → statement M
@@ -42,7 +42,7 @@ put-refused-spec =
     (tie.spec
     slice-aggregate-put-bytes
     put-bytes-requires
-    slice-aggregate-put-numbers
-    put-numbers-requires
+    slice-aggregate-put-numbers-line
+    put-numbers-line-requires
     same-length
     returns)

@@ -4,7 +4,7 @@ use Prim.Native.Nat.{_≤_}
 use native.Mathlib.Omega.{arith}
 use lib.ListN.{length, take, length-take}
 use lib.Seq.{length-take-le}
-use Rattle.cases.specs.Answers.{answerText, caseText}
+use Rattle.cases.specs.CaseTexts.{answerText, caseText}
 use Rattle.cases.proofs.AnswerStores.{stored-both}
 use borrow.Author.Needs.{needs}
 use Rattle.cases.proofs.answers.put_case.Statement.{statement}

@@ -1,7 +1,7 @@
 -- `budget`: ten digits, bounded.
 use mathlib.Core.Path.{_∙_, ap}
 use Prim.Native.Nat.{min}
-use Rattle.cases.specs.Head.{budgetSaid}
+use Rattle.cases.specs.HeadLine.{budgetSaid}
 use borrow.Author.Needs.{needs}
 use Rattle.cases.proofs.head.budget.Statement.{statement}
 use Rattle.cases.proofs.head.budget.Tie as tie

@@ -1,7 +1,7 @@
 -- `digit_value` is `digit`.
 use native.Mathlib.Omega.{arith}
 use borrow.Author.Tests.{lt-ltb, le-ltb}
-use Rattle.cases.specs.Head.{digit}
+use Rattle.cases.specs.HeadLine.{digit}
 use borrow.Author.Needs.{needs}
 use Rattle.cases.proofs.head.digit_value.Statement.{statement}
 use Rattle.cases.proofs.head.digit_value.Tie as tie

@@ -1,6 +1,6 @@
 -- `formula_len`: five digits say at most 99,999.
 use native.Mathlib.Omega.{arith}
-use Rattle.cases.specs.Head.{formulaSaid}
+use Rattle.cases.specs.HeadLine.{formulaSaid}
 use Rattle.cases.proofs.SaidNumbers.{five-said}
 use borrow.Author.Needs.{needs}
 use Rattle.cases.proofs.head.formula_len.Statement.{statement}

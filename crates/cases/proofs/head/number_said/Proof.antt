@@ -4,7 +4,7 @@ use Prim.Native.Nat.{_+_, _*_, _-_, _≤_, _<_}
 use native.Mathlib.Omega.{arith}
 use lib.ListN.{length, drop}
 use Rattle.text.proofs.Digits.{pow, pow-more}
-use Rattle.cases.specs.Head.{said}
+use Rattle.cases.specs.HeadLine.{said}
 use Rattle.cases.proofs.SaidNumbers.{said-next, said-end, pow-nine}
 use borrow.Author.Needs.{needs}
 use Rattle.cases.proofs.head.number_said.Statement.{statement}

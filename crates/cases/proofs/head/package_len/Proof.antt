@@ -2,7 +2,7 @@
 use mathlib.Core.Path.{_∙_, ap}
 use Prim.Native.Nat.{min}
 use native.Mathlib.Omega.{arith}
-use Rattle.cases.specs.Head.{packageSaid}
+use Rattle.cases.specs.HeadLine.{packageSaid}
 use borrow.Author.Needs.{needs}
 use Rattle.cases.proofs.head.package_len.Statement.{statement}
 use Rattle.cases.proofs.head.package_len.Tie as tie

@@ -2,7 +2,7 @@
 use mathlib.Core.Path.{_∙_, ap}
 use Prim.Native.Nat.{min}
 use native.Mathlib.Omega.{arith}
-use Rattle.cases.specs.Head.{roomSaid}
+use Rattle.cases.specs.HeadLine.{roomSaid}
 use borrow.Author.Needs.{needs}
 use Rattle.cases.proofs.head.room.Statement.{statement}
 use Rattle.cases.proofs.head.room.Tie as tie

@@ -1,11 +1,11 @@
--- `put_shortened`: the slice is blank before the call, and the head line says its room and the budget.
+-- `put_shortened`: the slice holds `~` alone before the call, and the head line says its room and the budget.
 use mathlib.Core.Path.{_∙_, ap, refl}
 use mathlib.Core.List.{List}
 use Prim.Native.Nat.{ℕ, _+_, _≤_}
 use native.Mathlib.Omega.{arith}
 use lib.ListN.{length}
 use lib.Seq.{sets}
-use Rattle.cases.specs.Answers.{blank}
+use Rattle.cases.specs.CaseTexts.{tildes}
 use Rattle.cases.proofs.AnswerTexts.{shortened-text}
 use borrow.Author.Needs.{needs}
 use Rattle.cases.proofs.outputs.put_shortened.Statement.{statement}
@@ -33,7 +33,7 @@ same-length : tie.Need-same-length
 same-length c = search needs
 
 returns : tie.Need-returns
-unfolding blank
+unfolding tildes
 returns c =
     let o = c .before .before in
     let v = o .before .before .before .before in

@@ -1,4 +1,4 @@
--- `put_numbers`: what is stored and what is left to store are the whole line.
+-- `put_numbers_line`: what is stored and what is left to store are the whole line.
 use mathlib.Core.Path.{_≡_, _∙_, ap, sym}
 use Prim.Native.Nat.{_+_, _-_}
 use native.Mathlib.Omega.{arith}
@@ -7,8 +7,8 @@ use lib.Seq.{sets}
 use Rattle.printing.specs.Printed.{numbersLine}
 use Rattle.printing.proofs.NumbersLine.{next-length, next-stored, next-room, numbers-end}
 use borrow.Author.Needs.{needs}
-use Rattle.printing.proofs.put_numbers.Statement.{statement}
-use Rattle.printing.proofs.put_numbers.Tie as tie
+use Rattle.printing.proofs.put_numbers_line.Statement.{statement}
+use Rattle.printing.proofs.put_numbers_line.Tie as tie
 
 abbrev Inv-loop : tie.InvT-loop
 Inv-loop out₀ at ns i₀ o₀ out i o =
@@ -83,8 +83,8 @@ returns c =
     let e = numbers-end (s .args .ns .now) (l .loop .i) (search needs) in
     (omega (arith, ap length e, l .loop .inv .0), ap (sets (l .loop .out) (l .loop .o)) (sym e) ∙ l .loop .inv .1)
 
-pub put-numbers-spec : {M : Type 1} → statement M
-put-numbers-spec =
+pub put-numbers-line-spec : {M : Type 1} → statement M
+put-numbers-line-spec =
     tie.close
     (tie.spec
     Inv-loop

@@ -11,7 +11,7 @@ use Rattle.lending.specs.Kept.{countKept}
 use Rattle.vaultgarlic.specs.declared.Checked.{Checked}
 use Rattle.vaultgarlic.specs.declared.Membership.{Membership}
 use Rattle.vaultgarlic.specs.Services.{checkedAs, listedAs, listedInto, shortenedAs, shortenedInto, membershipAs}
-use Rattle.cases.specs.Head.{roomSaid, budgetSaid}
+use Rattle.cases.specs.HeadLine.{roomSaid, budgetSaid}
 
 -- The check: number, place, overlaps.
 unfoldable pub checkedText : Checked → List ℕ
@@ -30,22 +30,22 @@ outputText number place count written out =
     numbersLine (number ∷ place ∷ count ∷ written ∷ countKept (drop written out) ∷ []) ++ take written out
 
 -- The output slice before the call: 65,536 bytes `~`. Only the first of them are lent.
-unfoldable pub blank : List ℕ
-blank = replicate 65536 126
+unfoldable pub tildes : List ℕ
+tildes = replicate 65536 126
 
 -- Listing into so many bytes of the output slice.
 unfoldable pub listedText : List ℕ → ℕ → List ℕ
-unfolding outputText listedAs listedInto blank
+unfolding outputText listedAs listedInto tildes
 listedText bytes room =
     let a = listedAs bytes room in
-    outputText (a .number) (a .place) (a .overlaps) (a .written) (listedInto bytes (take room blank) ++ drop room blank)
+    outputText (a .number) (a .place) (a .overlaps) (a .written) (listedInto bytes (take room tildes) ++ drop room tildes)
 
 -- The short form of a formula, written into so many bytes of the output slice.
 unfoldable pub shortenedText : List ℕ → List ℕ → ℕ → ℕ → List ℕ
-unfolding outputText shortenedAs shortenedInto blank
+unfolding outputText shortenedAs shortenedInto tildes
 shortenedText bytes text budget room =
     let a = shortenedAs bytes text budget room in
-    outputText (a .number) (a .place) (a .steps) (a .written) (shortenedInto bytes text budget (take room blank) ++ drop room blank)
+    outputText (a .number) (a .place) (a .steps) (a .written) (shortenedInto bytes text budget (take room tildes) ++ drop room tildes)
 
 -- The program overlap_list: a line ` prints`, and what it prints.
 unfoldable pub programText : List ℕ → List ℕ
