@@ -1,5 +1,5 @@
 -- Runs of stores: `sets l i vs` stores vs one by one from the place i on.
-use mathlib.Core.Path.{_≡_}
+use mathlib.Core.Path.{_≡_, _∙_}
 use mathlib.Core.Logic.{_≢_}
 use mathlib.Core.List.{List, [], _∷_, _++_}
 use Prim.Native.Nat.{ℕ, suc, _+_, _≤_, _<_}
@@ -15,6 +15,10 @@ sets-append l i [] ys = rw add-zero
 sets-append l i (x ∷ xs) ys =
     let e : i + suc (length xs) ≡ suc i + length xs = omega arith in
     rw e (sets-append (set l i x) (suc i) xs ys)
+
+-- Two runs that were stored one after the other, the second from the place behind the first on, are one run.
+pub stored-then : (l l₁ l₂ : List ℕ) (at a : ℕ) (xs ys : List ℕ) → l₁ ≡ sets l at xs → a ≡ at + length xs → l₂ ≡ sets l₁ a ys → l₂ ≡ sets l at (xs ++ ys)
+stored-then l l₁ l₂ at a xs ys e p f = f ∙ rw (e, p) (sets-append l at xs ys)
 
 -- A store behind a run may come first.
 pub sets-last : (l : List ℕ) (i j d : ℕ) (xs : List ℕ) → j ≡ i + length xs → sets (set l j d) i xs ≡ sets l i (xs ++ (d ∷ []))

@@ -8,17 +8,14 @@ use lib.ListN.{length, take, drop, set, length-append, length-drop}
 use lib.Seq.{sets, take-all}
 use Rattle.words.specs.Word.{Word}
 use Rattle.text.specs.Number.{writeNumber}
-use Rattle.lists.proofs.Stores.{sets-append}
+use Rattle.lists.proofs.Stores.{stored-then}
 use Rattle.overlaps.specs.declared.Cursor.{Cursor}
 use Rattle.overlaps.specs.Overlaps.{joined}
 use Rattle.overlaps.specs.Position.{overlapOf}
 use Rattle.overlaps.specs.Listing.{spaced, lineOf}
 use Rattle.listmeasuring.proofs.Lines.{spaced-length, line-parts}
 
--- two runs of stores, one behind the other
-stored-then : (l l₁ l₂ : List ℕ) (at a : ℕ) (xs ys : List ℕ) → l₁ ≡ sets l at xs → a ≡ at + length xs → l₂ ≡ sets l₁ a ys → l₂ ≡ sets l at (xs ++ ys)
-stored-then l l₁ l₂ at a xs ys e p f = f ∙ rw (e, p) (sets-append l at xs ys)
-
+-- the place behind two texts that stand one behind the other
 place-then : (at a b : ℕ) (xs ys : List ℕ) → a ≡ at + length xs → b ≡ a + length ys → b ≡ at + length (xs ++ ys)
 place-then at a b xs ys p q = omega (arith, length-append xs ys)
 

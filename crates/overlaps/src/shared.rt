@@ -15,8 +15,8 @@ pub fn is_shared(u: &[u8], v: &[u8], n: usize) -> bool
     wordplaces::place::stands_at(&v[0..n], u, at)
 }
 
-// The lesser of two lengths.
-fn lesser(a: usize, b: usize) -> usize
+// The lesser of two numbers.
+pub fn lesser(a: usize, b: usize) -> usize
     ensures { λ r. ⌜ r ≡ min a b ⌝ }
 {
     if a < b {

@@ -13,14 +13,16 @@ use Rattle.acceptance.specs.Content.{basis}
 use Rattle.services.specs.declared.Listed.{Listed}
 use Rattle.services.specs.Services.{listable, listedAs}
 
--- A number and one byte behind it.
-abbrev pub numberThen : ℕ → ℕ → List ℕ
-numberThen n end = writeNumber n ++ (end ∷ [])
-
--- The line of a refusal: fields parted by one space, ended by byte 10.
-unfoldable pub refusedLine : ℕ → ℕ → List ℕ
+-- Numbers in a line: each behind one space, and byte 10 behind the last.
+unfoldable pub numbersLine : List ℕ → List ℕ
 unfolding writeNumber
-refusedLine number place = ascii "refused " ++ (numberThen number 32 ++ numberThen place 10)
+numbersLine [] = 10 ∷ []
+numbersLine (n ∷ ns) = 32 ∷ (writeNumber n ++ numbersLine ns)
+
+-- The line of a refusal: `refused`, its number and its place, parted by one space each, ended by byte 10.
+unfoldable pub refusedLine : ℕ → ℕ → List ℕ
+unfolding numbersLine
+refusedLine number place = ascii "refused" ++ numbersLine (number ∷ place ∷ [])
 
 -- The list of a package that is not refused.
 unfoldable pub listOf : Outcome → List ℕ

@@ -1,22 +1,30 @@
-// What the program overlap_list prints for a package, and the program's whole work: a library, so that every program that runs it or
-// tries it calls the same functions.
+// What the program overlap_list prints for a package, made in a slice: a library, so that every program that runs it or tries it calls the
+// same functions. Reading and writing are the programs' own.
 
-use vaultgarlic::list::vg_list_overlaps;
+use textwriting::write::put_bytes;
+use textwriting::write::put_number;
+use vaultgarlic::vg_list_overlaps;
 ghost use mathlib.Core.Path.{_≡_};
 ghost use Prim.Native.Nat.{_+_, _≤_};
-ghost use lib.ListN.{length, take};
+ghost use lib.ListN.{length};
 ghost use lib.Seq.{sets};
-ghost use Rattle.printing.specs.Printed.{numberThen, refusedLine, printedText};
+ghost use Rattle.printing.specs.Printed.{numbersLine, refusedLine, printedText};
 
-// A number and one byte behind it, written to out from the place at on. The answer is the place behind them.
-fn put_number_then(out: &mut [u8], at: usize, n: u64, end: u8) -> usize
-    requires { ⌜ at + 21 ≤ length (now out) ⌝ }
-    ensures { λ r. ⌜ (r ≡ at + length (numberThen n end)) × (r ≤ at + 21) ⌝ }
-    ensures { λ _. ⌜ now (out .exit) ≡ sets (now (out .entry)) at (numberThen n end) ⌝ }
+// A line of numbers, each behind one space, written to out from the place at on. The answer is the place behind the line's end.
+pub fn put_numbers_line(out: &mut [u8], at: usize, ns: &[u64]) -> usize
+    requires { ⌜ at + length (numbersLine (now ns)) ≤ length (now out) ⌝ }
+    ensures { λ r. ⌜ r ≡ at + length (numbersLine (now (ns .entry))) ⌝ }
+    ensures { λ _. ⌜ now (out .exit) ≡ sets (now (out .entry)) at (numbersLine (now (ns .entry))) ⌝ }
 {
-    let e = textwriting::write::put_number(out, at, n);
-    out[e] = end;
-    e + 1
+    let mut i = 0;
+    let mut o = at;
+    while i < ns.len() {
+        out[o] = b' ';
+        o = put_number(out, o + 1, ns[i]);
+        i += 1;
+    }
+    out[o] = b'\n';
+    o + 1
 }
 
 // The line that is printed for a refusal, written to out from its beginning on. The answer is how many bytes it has.
@@ -25,9 +33,8 @@ fn put_refused(out: &mut [u8], number: u64, place: u64) -> usize
     ensures { λ r. ⌜ (r ≡ length (refusedLine number place)) × (r ≤ 50) ⌝ }
     ensures { λ _. ⌜ now (out .exit) ≡ sets (now (out .entry)) 0 (refusedLine number place) ⌝ }
 {
-    let a = textwriting::write::put_bytes(out, 0, b"refused ");
-    let b = put_number_then(out, a, number, b' ');
-    put_number_then(out, b, place, b'\n')
+    let at = put_bytes(out, 0, b"refused");
+    put_numbers_line(out, at, &[number, place])
 }
 
 // What is printed for a package, written to the 65,536 bytes lent, from their beginning on: the list, or the line of the refusal. The
@@ -42,14 +49,4 @@ pub fn print_into(package: &[u8], out: &mut [u8]) -> usize
         return a.written as usize;
     }
     put_refused(out, a.number, a.place)
-}
-
-// Reads a package from standard input and prints its overlap list or its refusal. One byte more than a package may have is asked for,
-// so that a longer input is seen to be too long; nothing behind that byte is read.
-pub fn print_standard_input() {
-    let mut input = [0u8; 65537];
-    let mut out = [0u8; 65536];
-    let n = io::read_full(0, &mut input);
-    let m = print_into(&input[..n], &mut out);
-    io::write_all(1, &out[..m]);
 }

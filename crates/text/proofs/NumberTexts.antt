@@ -48,7 +48,7 @@ digits-written (suc k) n h = go (decLt n 10) (λ (l : 10 ≤ n). digits-written 
     go (no l) ih = let m : 10 ≤ n = omega arith in more-digits n m (ih m)
 
 -- A number below 10 ^ (k + 1) has at most k + 1 digits.
-few-digits : (k n : ℕ) → n < pow (suc k) → length (writeNumber n) ≤ suc k
+pub few-digits : (k n : ℕ) → n < pow (suc k) → length (writeNumber n) ≤ suc k
 unfolding pow
 few-digits zero n h = omega (arith, length-digit n (omega arith))
 few-digits (suc k) n h = go (decLt n 10) (λ (l : 10 ≤ n). few-digits k (n / 10) (omega arith))

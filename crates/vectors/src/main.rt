@@ -2,9 +2,6 @@
 // the package's bytes, the formula's bytes, and one byte 10. The file 'stdout' has the answers that document 01 gives, written down
 // beforehand.
 
-mod answers;
-mod calls;
-mod head;
 mod run;
 
 use libc::STDOUT_FILENO;

@@ -3,7 +3,7 @@ use mathlib.Core.Path.{_∙_, ap, ap₂}
 use native.Mathlib.Omega.{arith}
 use lib.ListN.{length}
 use lib.Seq.{sets}
-use Rattle.printing.proofs.ListingAnswers.{list-printed, refusal-printed}
+use Rattle.printing.proofs.ListOrRefusal.{list-printed, refusal-printed}
 use borrow.Author.Needs.{needs}
 use Rattle.printing.proofs.print_into.Statement.{statement}
 use Rattle.printing.proofs.print_into.Tie as tie

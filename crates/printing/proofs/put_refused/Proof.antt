@@ -1,6 +1,7 @@
--- `put_refused`: the word, the number and the place, one behind the other.
+-- `put_refused`: the word, and behind it the number and the place.
+use Prim.Native.Nat.{_≤_}
 use native.Mathlib.Omega.{arith}
-use Rattle.printing.proofs.RefusedLine.{line-stored}
+use Rattle.printing.proofs.RefusedLine.{two-numbers-length, refused-length, refused-stored}
 use borrow.Author.Needs.{needs}
 use Rattle.printing.proofs.put_refused.Statement.{statement}
 use Rattle.printing.proofs.put_refused.Tie as tie
@@ -11,22 +12,29 @@ slice-aggregate-put-bytes c = search needs
 put-bytes-requires : tie.Need-put-bytes-requires
 put-bytes-requires c κs = search needs
 
-put-number-then-requires : tie.Need-put-number-then-requires
-put-number-then-requires c κs = search needs
+slice-aggregate-put-numbers-line : tie.Need-slice-aggregate-put-numbers-line
+slice-aggregate-put-numbers-line c = search needs
 
-put-number-then-requires-2 : tie.Need-put-number-then-requires-2
-put-number-then-requires-2 c κs = search needs
+put-numbers-line-requires : tie.Need-put-numbers-line-requires
+put-numbers-line-requires c κs =
+    let p = c .before .before .before .before in
+    let s = p .before .before .before .before in
+    omega (arith, two-numbers-length (s .args .number) (s .args .place) (s .fits .number .fits) (s .fits .place .fits))
 
 same-length : tie.Need-same-length
 same-length c = search needs
 
 returns : tie.Need-returns
 returns c =
-    let p₃ = c .before .before in
-    let p₂ = p₃ .before .before .before .before in
-    let p₁ = p₂ .before .before .before .before in
-    let line = line-stored _ _ _ _ _ _ _ _ _ (p₁ .put-bytes .ensures) (p₂ .put-number-then .ensures .0 .0) (p₂ .put-number-then .ensures .1) (p₃ .put-number-then2 .ensures .0 .0) (p₃ .put-number-then2 .ensures .1) in
-    ((line .0, omega (arith, p₁ .put-bytes .ensures .0, p₂ .put-number-then .ensures .0 .1, p₃ .put-number-then2 .ensures .0 .1)), line .1)
+    let q = c .before .before in
+    let p = q .before .before .before .before .before in
+    let s = p .before .before .before .before in
+    let n = s .args .number in
+    let k = s .args .place in
+    let b : q .put-numbers-line .result ≤ 50 = omega (arith, two-numbers-length n k (s .fits .number .fits) (s .fits .place .fits), q .put-numbers-line .ensures .0, p .put-bytes .ensures .0) in (
+      (refused-length _ _ n k (p .put-bytes .ensures .0) (q .put-numbers-line .ensures .0), b),
+      refused-stored _ _ _ _ n k (p .put-bytes .ensures) (q .put-numbers-line .ensures .1),
+    )
 
 pub put-refused-spec : {M : Type 1} → statement M
 put-refused-spec =
@@ -34,7 +42,7 @@ put-refused-spec =
     (tie.spec
     slice-aggregate-put-bytes
     put-bytes-requires
-    put-number-then-requires
-    put-number-then-requires-2
+    slice-aggregate-put-numbers-line
+    put-numbers-line-requires
     same-length
     returns)

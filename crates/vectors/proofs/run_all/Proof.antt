@@ -1,5 +1,4 @@
 -- `run_all` ends: the turns that are left fall.
-use native.Mathlib.Omega.{arith}
 use borrow.Author.Needs.{needs}
 use Rattle.vectors.proofs.run_all.Statement.{statement}
 use Rattle.vectors.proofs.run_all.Tie as tie

@@ -1,5 +1,6 @@
 -- `read_bytes`: the part lent has as many bytes as are asked for.
-use Rattle.vectors.proofs.Parts.{part-length}
+use mathlib.Core.Path.{sym}
+use lib.Seq.{length-take-le}
 use borrow.Author.Needs.{needs}
 use Rattle.vectors.proofs.run.read_bytes.Statement.{statement}
 use Rattle.vectors.proofs.run.read_bytes.Tie as tie
@@ -8,7 +9,7 @@ slice-relend-prefix-read-full : tie.Need-slice-relend-prefix-read-full
 slice-relend-prefix-read-full c = search needs
 
 slice-aggregate-read-full : tie.Need-slice-aggregate-read-full
-slice-aggregate-read-full c = part-length _ _ (search needs)
+slice-aggregate-read-full c = sym (length-take-le _ _ (search needs))
 
 read-full-requires : tie.Need-read-full-requires
 read-full-requires c κs = search needs

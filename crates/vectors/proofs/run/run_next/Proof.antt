@@ -1,5 +1,6 @@
 -- `run_next`: the package and the formula lie within what was read.
-use Rattle.vectors.proofs.Parts.{part-length}
+use mathlib.Core.Path.{sym}
+use lib.Seq.{length-take-le}
 use borrow.Author.Needs.{needs}
 use Rattle.vectors.proofs.run.run_next.Statement.{statement}
 use Rattle.vectors.proofs.run.run_next.Tie as tie
@@ -40,23 +41,23 @@ add-read-bytes c = search needs
 read-bytes-requires-2 : tie.Need-read-bytes-requires-2
 read-bytes-requires-2 c κs = search needs
 
-slice-aggregate-run-case : tie.Need-slice-aggregate-run-case
-slice-aggregate-run-case c = search needs
+slice-aggregate-write-case : tie.Need-slice-aggregate-write-case
+slice-aggregate-write-case c = search needs
 
 array-share-prefix-package : tie.Need-array-share-prefix-package
 array-share-prefix-package c = search needs
 
-slice-aggregate-run-case-2 : tie.Need-slice-aggregate-run-case-2
-slice-aggregate-run-case-2 c = part-length _ _ (array-share-prefix-package (c .before))
+slice-aggregate-write-case-2 : tie.Need-slice-aggregate-write-case-2
+slice-aggregate-write-case-2 c = sym (length-take-le _ _ (array-share-prefix-package (c .before)))
 
 array-share-prefix-formula : tie.Need-array-share-prefix-formula
 array-share-prefix-formula c = search needs
 
-slice-aggregate-run-case-3 : tie.Need-slice-aggregate-run-case-3
-slice-aggregate-run-case-3 c = part-length _ _ (array-share-prefix-formula (c .before))
+slice-aggregate-write-case-3 : tie.Need-slice-aggregate-write-case-3
+slice-aggregate-write-case-3 c = sym (length-take-le _ _ (array-share-prefix-formula (c .before)))
 
-run-case-requires : tie.Need-run-case-requires
-run-case-requires c κs = search needs
+write-case-requires : tie.Need-write-case-requires
+write-case-requires c κs = search needs
 
 returns-2 : tie.Need-returns-2
 returns-2 c = search needs
@@ -80,11 +81,11 @@ run-next-spec =
     slice-aggregate-read-bytes-2
     add-read-bytes
     read-bytes-requires-2
-    slice-aggregate-run-case
+    slice-aggregate-write-case
     array-share-prefix-package
-    slice-aggregate-run-case-2
+    slice-aggregate-write-case-2
     array-share-prefix-formula
-    slice-aggregate-run-case-3
-    run-case-requires
+    slice-aggregate-write-case-3
+    write-case-requires
     returns-2
     returns-3)

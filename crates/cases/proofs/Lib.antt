@@ -1,0 +1,4 @@
+-- The laws that this crate's functions are proved by.
+pub mod SaidNumbers
+pub mod AnswerStores
+pub mod AnswerTexts

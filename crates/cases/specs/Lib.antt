@@ -1,0 +1,2 @@
+pub mod HeadLine
+pub mod CaseTexts
