@@ -1,4 +1,4 @@
--- How bringing a formula to its short form ends (document 01, 'Short forms' and the order of refusals).
+-- How bringing a formula to its short form ends (document 01, 'Steps', and the order of refusals).
 use mathlib.Core.List.{List}
 use Prim.Native.Nat.{ℕ}
 use Rattle.field.specs.Field.{fieldOf}

@@ -1,4 +1,4 @@
--- The written form of a polynomial (document 01, 'Polynomial'): distinct words, greatest first, with coefficients that are elements other than 0.
+-- The written form of a polynomial (document 01, 'Words and polynomials'): distinct words, greatest first, with coefficients that are elements other than 0.
 -- It is the canonical form of a polynomial: each has exactly one (`written-written` and `written-coeff`, `written-unique`).
 use mathlib.Core.Bool.{true, false}
 use mathlib.Core.Logic.{_≢_}

@@ -14,30 +14,21 @@ use Rattle.package.specs.Package.{Package, Outcome, refused, read, readPackage}
 use Rattle.acceptance.specs.Content.{basis}
 use Rattle.acceptance.specs.Check.{Verdict, refusal, fine, thenJudge, leadsJudged, apartJudged, basisJudged}
 use Rattle.sumlines.specs.Told.{told}
+use Rattle.sumlines.proofs.ToldNumbers.{told-refused, told-fine}
 use Rattle.services.proofs.Room.{refusedList}
 use Rattle.acceptance.specs.Acceptance.{judgedBy}
 use Rattle.services.specs.Services.{listable, wordsListed, fitted, listAnswer, listOutput, listedAs, listedInto}
 use Rattle.listing.specs.ListingParts.{verdictListed, verdictOutput, basisListed, basisOutput}
 
-told-place : (n r : ℕ) → (r ≡ 0 → ⊥) → told n r ≡ refusal n r
-unfolding told
-told-place n zero l = absurd (l refl)
-told-place n (suc r) l = refl
-
-told-none : (n r : ℕ) → r ≡ 0 → told n r ≡ fine
-unfolding told
-told-none n zero e = refl
-told-none n (suc r) e = absurd (omega arith)
-
 -- 8 where a polynomial is zero or does not lead with 1.
 lead-judged : (ps : List Poly) (r : ℕ) → told 8 r ≡ leadsJudged ps 1 → (r ≡ 0 → ⊥) → basisJudged ps ≡ refusal 8 r
 unfolding basisJudged thenJudge
-lead-judged ps r e l = ap (λ (v : Verdict). thenJudge v (apartJudged (leads ps) (leads ps) 1)) (sym e ∙ told-place 8 r l)
+lead-judged ps r e l = ap (λ (v : Verdict). thenJudge v (apartJudged (leads ps) (leads ps) 1)) (sym e ∙ told-refused 8 r l)
 
 -- Then 9 where a leading word holds another, or nothing.
 lead-fine : (ps : List Poly) (r : ℕ) → told 8 r ≡ leadsJudged ps 1 → r ≡ 0 → basisJudged ps ≡ apartJudged (leads ps) (leads ps) 1
 unfolding basisJudged thenJudge
-lead-fine ps r e z = ap (λ (v : Verdict). thenJudge v (apartJudged (leads ps) (leads ps) 1)) (sym e ∙ told-none 8 r z)
+lead-fine ps r e z = ap (λ (v : Verdict). thenJudge v (apartJudged (leads ps) (leads ps) 1)) (sym e ∙ told-fine 8 r .1 z)
 
 module _ (ps : List Poly) (r : ℕ) (e : told 8 r ≡ leadsJudged ps 1) where
   pub wrong-lead : (room : ℕ) → (r ≡ 0 → ⊥) → basisListed room ps ≡ refusedList 8 r
@@ -54,19 +45,19 @@ module _ (ps : List Poly) (r : ℕ) (e : told 8 r ≡ leadsJudged ps 1) where
 
     pub held-lead : (room : ℕ) → (k ≡ 0 → ⊥) → basisListed room ps ≡ refusedList 9 k
     unfolding verdictListed
-    held-lead room l = ap (verdictListed room ps) (apart-told ∙ told-place 9 k l)
+    held-lead room l = ap (verdictListed room ps) (apart-told ∙ told-refused 9 k l)
 
     pub held-lead-kept : (out : List ℕ) → (k ≡ 0 → ⊥) → basisOutput out ps ≡ out
     unfolding verdictOutput
-    held-lead-kept out l = ap (verdictOutput out ps) (apart-told ∙ told-place 9 k l)
+    held-lead-kept out l = ap (verdictOutput out ps) (apart-told ∙ told-refused 9 k l)
 
     pub fine-listed : (room : ℕ) → k ≡ 0 → basisListed room ps ≡ wordsListed room ws
     unfolding verdictListed
-    fine-listed room l = ap (verdictListed room ps) (apart-told ∙ told-none 9 k l) ∙ ap (wordsListed room) (sym w)
+    fine-listed room l = ap (verdictListed room ps) (apart-told ∙ told-fine 9 k .1 l) ∙ ap (wordsListed room) (sym w)
 
     pub fine-written : (out : List ℕ) → k ≡ 0 → basisOutput out ps ≡ fitted (overlapText ws) out
     unfolding verdictOutput
-    fine-written out l = ap (verdictOutput out ps) (apart-told ∙ told-none 9 k l) ∙ ap (λ (us : List Word). fitted (overlapText us) out) (sym w)
+    fine-written out l = ap (verdictOutput out ps) (apart-told ∙ told-fine 9 k .1 l) ∙ ap (λ (us : List Word). fitted (overlapText us) out) (sym w)
 
 -- A package that does not read.
 pub unread-listed : (bytes : List ℕ) (n k room : ℕ) → refused n k ≡ readPackage bytes → listedAs bytes room ≡ refusedList n k

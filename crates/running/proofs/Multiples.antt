@@ -18,6 +18,7 @@ use Rattle.algebra.specs.Written.{Written, term, insert, plus}
 use Rattle.algebra.specs.Written as W
 use Rattle.algebra.specs.Ideal.{family}
 use Rattle.algebra.specs.Groebner.{lead, Led}
+use Rattle.working.proofs.Families.{family-written}
 use Rattle.algebra.specs.Spot.{spot, found}
 use Rattle.algebra.specs.Steps.{takeAway, lineAt, stepped}
 use Rattle.algebra.proofs.Coefficients.{scale-words}
@@ -46,13 +47,6 @@ before-above (s ∷ p) t r (term a b c d) = head (all-split p (t ∷ r) c .1) al
     head (q also qs) = q
 
 module _ {K : Operations} (laws : Field K) {O : Order} (A : Admissible O) (ps : List Poly) (valid : All (λ f. Written K O f) ps) where
-  family-written : (qs : List Poly) → All (λ f. Written K O f) qs → (g : ℕ) → Written K O (family qs g)
-  unfolding family
-  family-written qs h zero = W.zero
-  family-written [] h (suc g) = W.zero
-  family-written (q ∷ qs) (h also hs) (suc zero) = h
-  family-written (q ∷ qs) (h also hs) (suc (suc g)) = family-written qs hs (suc g)
-
   -- what a step at a spot takes away
   abbrev taken : Term → ℕ → ℕ → Poly
   taken t i g = scale K (K .neg (t .coef)) (shift (take i (t .word)) (drop (i + length (lead (family ps g))) (t .word)) (family ps g))
@@ -63,7 +57,7 @@ module _ {K : Operations} (laws : Field K) {O : Order} (A : Admissible O) (ps : 
 
   taken-le : (t : Term) (i g : ℕ) → spot ps (t .word) ≡ found i g → All (λ s. Le O (s .word) (t .word)) (taken t i g)
   taken-le t i g e =
-      scale-words K (λ u. Le O u (t .word)) (K .neg (t .coef)) _ (go (written-led laws A (family ps g) (family-written ps valid g)))
+      scale-words K (λ u. Le O u (t .word)) (K .neg (t .coef)) _ (go (written-led laws A (family ps g) (family-written K O ps valid g)))
     where
       cut : (family ps g ≢ []) × (around (take i (t .word)) (drop (i + length (lead (family ps g))) (t .word)) (lead (family ps g)) ≡ t .word)
       cut = spot-found ps (t .word) i g e

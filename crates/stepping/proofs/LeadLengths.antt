@@ -14,6 +14,7 @@ use Rattle.algebra.specs.Groebner.{lead}
 use Rattle.working.specs.Working.{terms}
 use Rattle.working.specs.Polynomial.{polyTerm}
 use Rattle.working.specs.Family.{between, polyBetween, familyAt, Terms, Runs}
+use Rattle.working.proofs.Families.{family-count}
 use Rattle.working.proofs.Terms.{terms-none}
 use Rattle.working.proofs.Numbered.{between-length, part-of, numbered}
 
@@ -27,11 +28,6 @@ lead-terms F zero h = absurd (omega arith)
 lead-terms F (suc k) h = refl
 
 module _ (coefs starts lens bytes firsts : List ℕ) where
-  family-length : (j n : ℕ) → length (familyAt coefs starts lens bytes firsts j n) ≡ n
-  unfolding familyAt
-  family-length j zero = refl
-  family-length j (suc n) = ap suc (family-length (suc j) n)
-
   module _ (base count : ℕ) where
     abbrev ps : List Poly
     ps = familyAt coefs starts lens bytes firsts base count
@@ -43,7 +39,7 @@ module _ (coefs starts lens bytes firsts : List ℕ) where
       where
         go : Dec (count < suc g) → suc g ≤ count
         go (no q) = omega arith
-        go (yes q) = absurd (h (family-none ps (suc g) (omega (arith, family-length base count))))
+        go (yes q) = absurd (h (family-none ps (suc g) (omega (arith, family-count coefs starts lens bytes firsts base count))))
 
     -- the first term's number, and its length
     pub record LeadAt (g : ℕ) : Type 0 where

@@ -1,4 +1,4 @@
-// Texts: what lines, fields, decimal numbers and words are, tests of bytes, and the answers of the readers of fields (crate fieldreading).
+// Texts: what lines, fields, decimal numbers and words are, tests of bytes, and the answers of the readers of fields (crates kindreading, numberreading and wordreading).
 // A reader of a field answers what the field says and the place behind it.
 
 pub mod bytes;
