@@ -16,7 +16,7 @@ use Rattle.algebra.specs.Written.{Written}
 use Rattle.package.specs.declared.FormulaRead.the-variants.{Formula}
 use Rattle.package.specs.declared.Limits.{Limits}
 use Rattle.package.specs.Formula.{formula, readFormula}
-use Rattle.package.specs.Held.{Inside, rowsHeld, seenFormula}
+use Rattle.package.specs.Held.{WordsInside, rowsHeld, seenFormula}
 use Rattle.package.proofs.FormulaTexts.{formula-reads}
 use Rattle.working.specs.Polynomial.{polyTerm, polyAt, Given}
 use Rattle.working.specs.Working.{terms}
@@ -61,7 +61,7 @@ module _ (p letters : ℕ) (m : Limits) (s cs os ls : List ℕ) (n : ℕ) (seen 
   held-short = all-map (λ t b. b .1) held-bounded
 
   -- The slices are well formed where the limits allow no more than 24 letters.
-  pub held-given : n ≤ length os → n ≤ length ls → Inside s os ls n → m .len ≤ 24 → Given p (take n cs) (take n os) (take n ls) s
+  pub held-given : n ≤ length os → n ≤ length ls → WordsInside s os ls n → m .len ≤ 24 → Given p (take n cs) (take n os) (take n ls) s
   held-given lo ll inside most =
       let kc = length-take-le n cs lc in
       let ko = length-take-le n os lo in

@@ -23,7 +23,7 @@ use Rattle.package.specs.Names.{termG, termB}
 use Rattle.package.specs.declared.Head.{Head}
 use Rattle.package.specs.declared.Limits.{Limits}
 use Rattle.package.specs.declared.Reading.the-variants.{Whole}
-use Rattle.package.specs.Held.{termAt, kept, seenAll, Inside, Marked}
+use Rattle.package.specs.Held.{heldTerm, heldTerms, seenAll, WordsInside, StartsMarked}
 use Rattle.package.specs.Items.{slot, slotsOf, firstOf, itemTerms}
 use Rattle.package.specs.Package.{Package, readPackage, packageLimits}
 use Rattle.package.specs.Readable.{under, TermInOrder, TermsInOrder, noTerms, termThen, Readable}
@@ -169,7 +169,7 @@ terms-of-at (t ∷ ts) (suc j) d = terms-of-at ts j d
 
 -- What a caller of the reader knows of a package that was read.
 module _ (s ks is cs os ls fs : List ℕ) (h : Head) (m at n : ℕ) (e : seenAll s ks is cs os ls (Whole h m at n) ≡ readPackage s)
-    (marked : Marked h ks is m fs) (inside : Inside s os ls m) (lc : m ≤ length cs) (lo : m ≤ length os) (ll : m ≤ length ls) (lf : h .gens + h .basis + 1 < length fs) where
+    (marked : StartsMarked h ks is m fs) (inside : WordsInside s os ls m) (lc : m ≤ length cs) (lo : m ≤ length os) (ll : m ≤ length ls) (lf : h .gens + h .basis + 1 < length fs) where
   abbrev P : Package
   P = wholePackage s ks is cs os ls h m at n
 
@@ -179,8 +179,8 @@ module _ (s ks is cs os ls fs : List ℕ) (h : Head) (m at n : ℕ) (e : seenAll
   bound-at : (i : ℕ) → i < m → TermBounds h packageLimits (getD ks i 0) (getD is i 0) (getD cs i 0) (part s (getD os i 0) (getD ls i 0))
   bound-at i l =
       let k = kept-length s ks is cs os ls m in
-      let d = termAt s ks is cs os ls 0 in
-      let b = all-at (terms-bounded h packageLimits (kept s ks is cs os ls m) (readable .terms)) d i (omega arith) in
+      let d = heldTerm s ks is cs os ls 0 in
+      let b = all-at (terms-bounded h packageLimits (heldTerms s ks is cs os ls m) (readable .terms)) d i (omega arith) in
       rw (kept-at s ks is cs os ls d m i l) at b
 
   -- the terms are well formed
@@ -195,7 +195,7 @@ module _ (s ks is cs os ls fs : List ℕ) (h : Head) (m at n : ℕ) (e : seenAll
   }
 
   abbrev whole : List TermLine
-  whole = kept s ks is cs os ls m
+  whole = heldTerms s ks is cs os ls m
 
   -- where the terms of item number j start
   mark : (j : ℕ) → j < h .gens + h .basis + 2 → getD fs j 0 ≡ firstOf j (slotsOf h whole)
@@ -210,7 +210,7 @@ module _ (s ks is cs os ls fs : List ℕ) (h : Head) (m at n : ℕ) (e : seenAll
   -- a part of the slices holds the terms of a part of the term lines
   part-terms : (a b : ℕ) → a ≤ b → b ≤ m → polyBetween cs os ls s a b ≡ termsOf (take (b - a) (drop a whole))
   part-terms a b l k =
-      let d = termAt s ks is cs os ls 0 in
+      let d = heldTerm s ks is cs os ls 0 in
       let lc' = between-length cs a b l (omega arith) in
       let n₁ = terms-length (polyTerm (between cs a b) (between os a b) (between ls a b) s) 0 (length (between cs a b)) in
       let n₂ = terms-of-length (take (b - a) (drop a whole)) in
@@ -224,7 +224,7 @@ module _ (s ks is cs os ls fs : List ℕ) (h : Head) (m at n : ℕ) (e : seenAll
           → getD (polyBetween cs os ls s a b) j (record { coef = d .coef; word = d .word }) ≡ getD (termsOf (take (b - a) (drop a whole))) j (record { coef = d .coef; word = d .word })
       same j q d =
           let lc' = between-length cs a b l (omega arith) in
-          let x : getD (take (b - a) (drop a whole)) j d ≡ termAt s ks is cs os ls (a + j) =
+          let x : getD (take (b - a) (drop a whole)) j d ≡ heldTerm s ks is cs os ls (a + j) =
           getD-take (b - a) (drop a whole) j d q ∙ getD-drop a whole j d ∙ kept-at s ks is cs os ls d m (a + j) (omega arith) in
           terms-at (polyTerm (between cs a b) (between os a b) (between ls a b) s) (length (between cs a b)) j (record { coef = d .coef; word = d .word }) (omega arith)
           ∙ rw (between-at cs a b j q, between-at os a b j q, between-at ls a b j q) (sym (terms-of-at (take (b - a) (drop a whole)) j d ∙ rw x))

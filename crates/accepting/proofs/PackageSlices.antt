@@ -11,7 +11,7 @@ use Rattle.algebra.specs.Poly.{Poly}
 use Rattle.algebra.specs.Written.{Written}
 use Rattle.package.specs.declared.Head.{Head}
 use Rattle.package.specs.declared.Reading.the-variants.{Whole}
-use Rattle.package.specs.Held.{kept, seenAll, Inside, Marked}
+use Rattle.package.specs.Held.{heldTerms, seenAll, WordsInside, StartsMarked}
 use Rattle.package.specs.Package.{Package, Outcome, refused, read, readPackage, packageLimits, firstSum}
 use Rattle.package.specs.Readable.{Readable, SumsInOrder}
 use Rattle.package.specs.Sums.{SumLine}
@@ -34,7 +34,7 @@ use Rattle.acceptance.specs.Acceptance.{judgedBy, acceptance}
 use Rattle.accepting.specs.Slices.{PackageRead, PackageAccepted, overlapsIn}
 
 module _ (s ks is cs os ls fs : List ℕ) (h : Head) (m at n : ℕ) (e : seenAll s ks is cs os ls (Whole h m at n) ≡ readPackage s)
-    (marked : Marked h ks is m fs) (inside : Inside s os ls m) (lc : m ≤ length cs) (lo : m ≤ length os) (ll : m ≤ length ls) (lf : h .gens + h .basis + 1 < length fs)
+    (marked : StartsMarked h ks is m fs) (inside : WordsInside s os ls m) (lc : m ≤ length cs) (lo : m ≤ length os) (ll : m ≤ length ls) (lf : h .gens + h .basis + 1 < length fs)
     (low : at ≤ length s) (small : n ≤ at + 4) (first : n ≡ firstSum m) where
   abbrev P : Package
   P = wholePackage s ks is cs os ls h m at n
@@ -67,8 +67,8 @@ module _ (s ks is cs os ls fs : List ℕ) (h : Head) (m at n : ℕ) (e : seenAll
 
   sums-start : SumsStart h s at n
   sums-start =
-      let z : firstSum (length (kept s ks is cs os ls m)) ≡ n = omega (arith, kept-length s ks is cs os ls m) in
-      let o : SumsInOrder h packageLimits 0 0 (firstSum (length (kept s ks is cs os ls m))) (sumsAt s at n) = readable .sums in
+      let z : firstSum (length (heldTerms s ks is cs os ls m)) ≡ n = omega (arith, kept-length s ks is cs os ls m) in
+      let o : SumsInOrder h packageLimits 0 0 (firstSum (length (heldTerms s ks is cs os ls m))) (sumsAt s at n) = readable .sums in
       record { size = reads-written P s reads .2; low = low; small = small; some = omega arith; order = rw z at o }
 
   -- A package that was read lies in the slices.

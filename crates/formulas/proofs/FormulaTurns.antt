@@ -11,7 +11,7 @@ use lib.ListN.{length, getD, drop, set, length-append, drop-of-length-le}
 use lib.Seq.{drop-cons, getD-set-same, getD-set-other}
 use Rattle.algebra.specs.Poly.{Term}
 use Rattle.package.specs.Formula.{wrongAt, formula, noRow, row, judgeRow, rowsEnd, rows, formulaLines, readFormula}
-use Rattle.package.specs.Held.{Inside, rowsHeld}
+use Rattle.package.specs.Held.{WordsInside, rowsHeld}
 use Rattle.package.specs.Names.{formulaNames}
 use Rattle.package.specs.declared.Limits.{Limits}
 use Rattle.text.proofs.Cutting.{cut-more, cut-end}
@@ -69,7 +69,7 @@ module _ (p letters : ℕ) (lim : Limits) (v s cs os ls : List ℕ) (n line at e
       let j′ : judgeRow p letters lim v (length (rowsHeld s cs os ls n)) (part s at (e - at)) ≡ row c (part s o l) = rw (rows-length s cs os ls n) j in
       rw (a, b, d, add-one n, rows-stored s cs os ls n c o l x y z) (rows-more p letters lim v (rowsHeld s cs os ls n) line s at e q w c (part s o l) j′)
 
-  pub rows-inside : o + l ≤ length s → Inside s os ls n → Inside s os′ ls′ (n + 1)
+  pub rows-inside : o + l ≤ length s → WordsInside s os ls n → WordsInside s os′ ls′ (n + 1)
   rows-inside r h i g = go (ℕ-discrete i n)
     where
       go : Dec (i ≡ n) → getD os′ i 0 + getD ls′ i 0 ≤ length s

@@ -18,7 +18,7 @@ ghost use Prim.Native.Nat.{ℕ, _+_, _-_, _<_, _≤_};
 ghost use lib.ListN.{length, drop, set};
 ghost use Rattle.text.specs.Pieces.{lines, fields, part};
 ghost use Rattle.package.specs.Formula.{rowForm, rowFits, judgeRow, rows, readFormula};
-ghost use Rattle.package.specs.Held.{seenRow, reachRow, seenFormula, countFormula, Inside};
+ghost use Rattle.package.specs.Held.{seenRow, reachRow, seenFormula, countFormula, WordsInside};
 
 // A line of a formula: coef word.
 pub fn read_row(l: &[u8]) -> RowRead
@@ -135,7 +135,7 @@ fn read_rows(
     requires { ⌜ (letters ≤ 26) × (m .terms ≤ 65536) × (1 ≤ from) × (from ≤ length (now s)) ⌝ }
     requires { ⌜ (m .terms ≤ length (now coefs)) × (m .terms ≤ length (now starts)) × (m .terms ≤ length (now lens)) ⌝ }
     ensures { λ r. ⌜ seenFormula (now (s .entry)) (now (coefs .exit)) (now (starts .exit)) (now (lens .exit)) r ≡ rows p letters m [] [] 2 (lines (drop from (now (s .entry)))) ⌝ }
-    ensures { λ r. ⌜ (countFormula r ≤ m .terms) × Inside (now (s .entry)) (now (starts .exit)) (now (lens .exit)) (countFormula r) ⌝ }
+    ensures { λ r. ⌜ (countFormula r ≤ m .terms) × WordsInside (now (s .entry)) (now (starts .exit)) (now (lens .exit)) (countFormula r) ⌝ }
 {
     let mut n = 0;
     let mut start = 0;
@@ -179,7 +179,7 @@ pub fn read_formula(
     requires { ⌜ (letters ≤ 26) × (m .terms ≤ 65536) ⌝ }
     requires { ⌜ (m .terms ≤ length (now coefs)) × (m .terms ≤ length (now starts)) × (m .terms ≤ length (now lens)) ⌝ }
     ensures { λ r. ⌜ seenFormula (now (s .entry)) (now (coefs .exit)) (now (starts .exit)) (now (lens .exit)) r ≡ readFormula p letters m (now (s .entry)) ⌝ }
-    ensures { λ r. ⌜ (countFormula r ≤ m .terms) × Inside (now (s .entry)) (now (starts .exit)) (now (lens .exit)) (countFormula r) ⌝ }
+    ensures { λ r. ⌜ (countFormula r ≤ m .terms) × WordsInside (now (s .entry)) (now (starts .exit)) (now (lens .exit)) (countFormula r) ⌝ }
 {
     let e = find(s, 0, 10);
     if s.len() <= e {

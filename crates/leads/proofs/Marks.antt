@@ -10,7 +10,7 @@ use lib.Seq.{getD-set-same, getD-set-other}
 use lib.Bits.{bitOr}
 use Rattle.words.specs.Word.{Word}
 use Rattle.leads.specs.Masks.{bit}
-use Rattle.leads.specs.Index.{column, columnIn, Marked, HasMark, withMark, Blank, Indexable, Indexed, Holds}
+use Rattle.leads.specs.Index.{column, columnIn, Marked, HasMark, withMark, Blank, Indexable, Indexed, IndexHolds}
 use Rattle.leads.proofs.Bits.{bit-zero, bit-new, bit-kept, bit-old}
 use Rattle.leads.proofs.Columns.{column-range, column-at, column-behind}
 
@@ -39,17 +39,17 @@ module _ (t : List ℕ) (at g : ℕ) (inside : at < length t) where
   mark-of-other i j e d b = bit-old (getD t i 0) g j d (rw (at-same i e) at b)
 
 -- a blank table holds no row
-pub holds-start : {ls : List Word} {t : List ℕ} → Blank t → Holds ls 0 t
+pub holds-start : {ls : List Word} {t : List ℕ} → Blank t → IndexHolds ls 0 t
 holds-start b = record {
   room = b .room;
   held = λ g k x h. absurd (omega arith);
   only = λ g k x p q m. absurd (bit-zero g (rw (b .zeros (k * 32 + x)) at m));
 }
 
-module _ (ls : List Word) (g k : ℕ) (t : List ℕ) (h : Holds ls (g * 25 + k) t) where
+module _ (ls : List Word) (g k : ℕ) (t : List ℕ) (h : IndexHolds ls (g * 25 + k) t) where
   -- word g's mark in row k
   holds-next : k < 25 → k ≤ length (getD ls g []) → (x : ℕ) → x < 32 → columnIn (getD ls g []) k ≡ x
-      → Holds ls (g * 25 + (k + 1)) (withMark t (k * 32 + x) g)
+      → IndexHolds ls (g * 25 + (k + 1)) (withMark t (k * 32 + x) g)
   holds-next few row x low at = record {
     room = rw length-set (h .room);
     held = λ j q y p r s m. held j q y p r s m (ℕ-discrete (j * 25 + q) (g * 25 + k));
@@ -78,7 +78,7 @@ module _ (ls : List Word) (g k : ℕ) (t : List ℕ) (h : Holds ls (g * 25 + k) 
           (omega arith, rw (d, f, z) (record { row = row; at = at }))
 
   -- word g has no mark in the rows from k on
-  holds-rest : k ≤ 25 → length (getD ls g []) < k → Holds ls (g * 25 + 25) t
+  holds-rest : k ≤ 25 → length (getD ls g []) < k → IndexHolds ls (g * 25 + 25) t
   holds-rest few past = record {
     room = h .room;
     held = λ j q y p r s m. held j q y p r s m (ℕ-discrete j g);
@@ -92,20 +92,20 @@ module _ (ls : List Word) (g k : ℕ) (t : List ℕ) (h : Holds ls (g * 25 + k) 
           h .held j q y (omega arith) r s m
 
 -- the marks of word g, letter after letter, and the one behind the last
-module _ {ls : List Word} {t : List ℕ} {word : Word} (g k : ℕ) (e : getD ls g [] ≡ word) (short : length word ≤ 24) (h : Holds ls (g * 25 + k) t) where
-  pub letter-marked : {x : ℕ} → k < length word → x ≡ column (getD word k 0) → Holds ls (g * 25 + (k + 1)) (withMark t (k * 32 + x) g)
+module _ {ls : List Word} {t : List ℕ} {word : Word} (g k : ℕ) (e : getD ls g [] ≡ word) (short : length word ≤ 24) (h : IndexHolds ls (g * 25 + k) t) where
+  pub letter-marked : {x : ℕ} → k < length word → x ≡ column (getD word k 0) → IndexHolds ls (g * 25 + (k + 1)) (withMark t (k * 32 + x) g)
   letter-marked {x} l c =
       let low = column-range (getD word k 0) .1 in
       holds-next ls g k t h (omega arith) (rw e (omega arith)) x (omega arith) (rw e (column-at word k l ∙ sym c))
 
-  pub end-marked : k ≡ length word → Holds ls (g * 25 + 25) (withMark t (k * 32) g)
+  pub end-marked : k ≡ length word → IndexHolds ls (g * 25 + 25) (withMark t (k * 32) g)
   end-marked l =
       let z : k * 32 + 0 ≡ k * 32 = add-zero (k * 32) in
       let n = holds-next ls g k t h (omega arith) (rw e (omega arith)) 0 (omega arith) (rw e (column-behind word k (omega arith))) in
       holds-rest ls g (k + 1) (withMark t (k * 32) g) (rw z at n) (omega arith) (rw e (omega arith))
 
 -- all rows of all words are done
-pub holds-end : {ls : List Word} {t : List ℕ} (n : ℕ) → n ≡ length ls → Indexable ls → Holds ls (n * 25) t → Indexed ls t
+pub holds-end : {ls : List Word} {t : List ℕ} (n : ℕ) → n ≡ length ls → Indexable ls → IndexHolds ls (n * 25) t → Indexed ls t
 holds-end n e i h = record {
   words = i;
   room = h .room;

@@ -53,11 +53,11 @@ pub record Indexed (ls : List Word) (t : List ℕ) : Type 0 where
   pub only : (g k x : ℕ) → k < 25 → x < 32 → HasMark t g k x → (g < length ls) × Marked (getD ls g []) k x
 
 -- The table in the making: rows are done word after word, so that word g's row k comes after g * 25 + k others; the table has the marks of the first s rows, and no others.
-pub record Holds (ls : List Word) (s : ℕ) (t : List ℕ) : Type 0 where
+pub record IndexHolds (ls : List Word) (s : ℕ) (t : List ℕ) : Type 0 where
   pub room : 800 ≤ length t
   pub held : (g k x : ℕ) → g * 25 + k < s → k < 25 → x < 32 → Marked (getD ls g []) k x → HasMark t g k x
   pub only : (g k x : ℕ) → k < 25 → x < 32 → HasMark t g k x → (g * 25 + k < s) × Marked (getD ls g []) k x
 
 -- From t to u the rows of word g are done, in every list whose word g it is.
 abbrev pub RowsDone : Word → ℕ → List ℕ → List ℕ → Type 0
-RowsDone b g t u = (ls : List Word) → getD ls g [] ≡ b → Holds ls (g * 25) t → Holds ls (g * 25 + 25) u
+RowsDone b g t u = (ls : List Word) → getD ls g [] ≡ b → IndexHolds ls (g * 25) t → IndexHolds ls (g * 25 + 25) u

@@ -11,7 +11,7 @@ ghost use mathlib.Core.Path.{_≡_};
 ghost use Prim.Native.Nat.{_+_, _≤_, _<_};
 ghost use lib.ListN.{length};
 ghost use Rattle.words.specs.Laid.{laidWords, Laid};
-ghost use Rattle.overlaps.specs.Position.{Short};
+ghost use Rattle.overlaps.specs.Position.{AtMost24};
 ghost use Rattle.overlaps.specs.Listing.{overlapText};
 ghost use Rattle.working.specs.Family.{familyAt, Terms, Runs};
 ghost use Rattle.services.specs.Services.{wordsListed, fitted, listedAs, listedInto};
@@ -31,7 +31,7 @@ fn refusal(number: u64, place: u64) -> Listed
 // The list of the overlaps of n words that lie in the bytes.
 fn list_words(heads: &[usize], headlens: &[usize], bytes: &[u8], n: usize, out: &mut [u8]) -> Listed
     requires { ⌜ Laid (now heads) (now headlens) (now bytes) n ⌝ }
-    requires { ⌜ (n ≤ 64) × Short (now headlens) n ⌝ }
+    requires { ⌜ (n ≤ 64) × AtMost24 (now headlens) n ⌝ }
     ensures { λ r. ⌜ r ≡ wordsListed (length (now (out .entry))) (laidWords (now (heads .entry)) (now (headlens .entry)) (now (bytes .entry)) n) ⌝ }
     ensures { λ _. ⌜ now (out .exit) ≡ fitted (overlapText (laidWords (now (heads .entry)) (now (headlens .entry)) (now (bytes .entry)) n)) (now (out .entry)) ⌝ }
 {

@@ -8,8 +8,8 @@ use lib.ListN.{length, getD, length-append}
 use Rattle.words.specs.Laid.{laidWords, Laid}
 use Rattle.overlaps.specs.declared.Cursor.{Cursor}
 use Rattle.overlaps.specs.Overlaps.{overlaps}
-use Rattle.overlaps.specs.Position.{overlapsAt, overlapOf, behind, origin, ordinal, Short}
-use Rattle.overlaps.specs.Listing.{wordOf, lineOf, lineLength, overlapLines, overlapText}
+use Rattle.overlaps.specs.Position.{overlapsAt, overlapOf, behind, origin, ordinal, AtMost24}
+use Rattle.overlaps.specs.Listing.{listWord, listLine, lineLength, overlapLines, overlapText}
 use Rattle.overlaps.proofs.Positions.{at-origin}
 use Rattle.listmeasuring.proofs.Walking.{Walking, Step, walking-start, found-length}
 
@@ -28,7 +28,7 @@ pub record Measured (starts lens bytes : List ℕ) (n count total : ℕ) : Type 
   pub whole-most : total ≤ 16000000
 
 module _ (starts lens bytes : List ℕ) (n : ℕ) where
-  pub measuring-start : Laid starts lens bytes n → n ≤ 64 → Short lens n → Measuring starts lens bytes n origin 0 30
+  pub measuring-start : Laid starts lens bytes n → n ≤ 64 → AtMost24 lens n → Measuring starts lens bytes n origin 0 30
   unfolding overlapText
   measuring-start h f s =
       let e = at-origin (laidWords starts lens bytes n) in
@@ -66,7 +66,7 @@ module _ (starts lens bytes : List ℕ) (n : ℕ) where
         let b = h .total-most in
         let o = s .further in
         let x = s .below-first in
-        let d = length-append (lineOf (suc count) (overlapOf c) (wordOf (laidWords starts lens bytes n) (overlapOf c)))
+        let d = length-append (listLine (suc count) (overlapOf c) (listWord (laidWords starts lens bytes n) (overlapOf c)))
         (overlapLines (laidWords starts lens bytes n) (suc (suc count)) (overlapsAt (laidWords starts lens bytes n) (behind c))) in
         let t = found-length starts lens bytes n (h .walking .laid) c (s .first-in) (s .second-in) (suc count) (omega arith) in
         let u = rw (add-one count) at l in

@@ -7,8 +7,8 @@ use lib.ListN.{length, drop, length-append, length-drop}
 use Rattle.words.specs.Word.{Word}
 use Rattle.text.specs.Number.{writeNumber}
 use Rattle.text.specs.Word.{writeWord}
-use Rattle.overlaps.specs.Overlaps.{Overlap, joined}
-use Rattle.overlaps.specs.Listing.{spaced, lineOf, lineLength}
+use Rattle.overlaps.specs.Overlaps.{Overlap, overlapJoined}
+use Rattle.overlaps.specs.Listing.{spaced, listLine, lineLength}
 
 -- a number, a space, and what follows
 pub spaced-length : (n : ℕ) (xs : List ℕ) → length (spaced n xs) ≡ length (writeNumber n) + 1 + length xs
@@ -40,11 +40,11 @@ module _ (k : ℕ) (o : Overlap) where
 
   module _ (u v : Word) (s : ℕ) (h : 1 ≤ length u) where
     -- the parts of a line, as they are stored
-    pub line-parts : lineOf k o (joined u v s) ≡ numbers [] ++ (u ++ (drop s v ++ (10 ∷ [])))
-    unfolding lineOf
-    line-parts = rw (lineOf, written u (drop s v) h) (ap numbers (append-assoc u (drop s v) (10 ∷ [])) ∙ sym (numbers-append (u ++ (drop s v ++ (10 ∷ [])))))
+    pub line-parts : listLine k o (overlapJoined u v s) ≡ numbers [] ++ (u ++ (drop s v ++ (10 ∷ [])))
+    unfolding listLine
+    line-parts = rw (listLine, written u (drop s v) h) (ap numbers (append-assoc u (drop s v) (10 ∷ [])) ∙ sym (numbers-append (u ++ (drop s v ++ (10 ∷ [])))))
 
-    pub line-length : length (lineOf k o (joined u v s)) ≡ lineLength k o (length u + (length v - s))
+    pub line-length : length (listLine k o (overlapJoined u v s)) ≡ lineLength k o (length u + (length v - s))
     line-length =
         ap (λ (l : List ℕ). length l) line-parts
         ∙ omega (

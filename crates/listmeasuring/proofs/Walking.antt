@@ -9,15 +9,15 @@ use Rattle.words.proofs.LaidWords.{laid-at, laid-word-length}
 use Rattle.overlaps.specs.declared.Cursor.{Cursor}
 use Rattle.overlaps.specs.declared.Next.{Next}
 use Rattle.overlaps.specs.declared.Next.the-variants.{Overlap, Done}
-use Rattle.overlaps.specs.Overlaps.{joined}
-use Rattle.overlaps.specs.Position.{overlapsAt, overlapOf, behind, seenNext, origin, ordinal, Placed, Short, FoundAt, Ahead}
-use Rattle.overlaps.specs.Listing.{wordOf, lineOf, lineLength}
+use Rattle.overlaps.specs.Overlaps.{overlapJoined}
+use Rattle.overlaps.specs.Position.{overlapsAt, overlapOf, behind, seenOverlap, origin, ordinal, Placed, AtMost24, FoundAt, Ahead}
+use Rattle.overlaps.specs.Listing.{listWord, listLine, lineLength}
 use Rattle.listmeasuring.proofs.Lines.{line-length}
 
 pub record Walking (starts lens bytes : List ℕ) (n : ℕ) (at : Cursor) : Type 0 where
   pub laid : Laid starts lens bytes n
   pub few : n ≤ 64
-  pub short : Short lens n
+  pub short : AtMost24 lens n
   pub placed : Placed n at
   pub within : ordinal at ≤ 98304
 
@@ -40,21 +40,21 @@ pub record Step (starts lens bytes : List ℕ) (n : ℕ) (at c : Cursor) : Type 
   pub falls : 98305 - ordinal (behind c) < 98305 - ordinal at
 
 module _ (starts lens bytes : List ℕ) (n : ℕ) where
-  pub walking-start : Laid starts lens bytes n → n ≤ 64 → Short lens n → Walking starts lens bytes n origin
+  pub walking-start : Laid starts lens bytes n → n ≤ 64 → AtMost24 lens n → Walking starts lens bytes n origin
   walking-start h f s = record { laid = h; few = f; short = s; placed = record { row = λ l. l; some = omega arith; most = omega arith }; within = omega arith }
 
   module _ (at : Cursor) where
     -- the search found nothing
-    pub none-left : (r : Next) → seenNext (laidWords starts lens bytes n) r ≡ overlapsAt (laidWords starts lens bytes n) at → r ≡ Done
+    pub none-left : (r : Next) → seenOverlap (laidWords starts lens bytes n) r ≡ overlapsAt (laidWords starts lens bytes n) at → r ≡ Done
         → overlapsAt (laidWords starts lens bytes n) at ≡ []
-    unfolding seenNext
+    unfolding seenOverlap
     none-left r h e = sym (rw e at h)
 
     -- the search found an overlap
     pub step : Walking starts lens bytes n at → (r : Next) (c : Cursor)
-        → (seenNext (laidWords starts lens bytes n) r ≡ overlapsAt (laidWords starts lens bytes n) at) × Ahead lens n at r → r ≡ Overlap c
+        → (seenOverlap (laidWords starts lens bytes n) r ≡ overlapsAt (laidWords starts lens bytes n) at) × Ahead lens n at r → r ≡ Overlap c
         → Step starts lens bytes n at c
-    unfolding seenNext Ahead
+    unfolding seenOverlap Ahead
     step w r c (h, a) e =
         let f : FoundAt lens n at c = rw e at a in
         let x = f .first in
@@ -91,11 +91,11 @@ module _ (starts lens bytes : List ℕ) (n : ℕ) where
 
   -- the overlap word of two of the words, and its line
   module _ (h : Laid starts lens bytes n) (c : Cursor) (a : c .first < n) (b : c .second < n) where
-    pub found-word : wordOf (laidWords starts lens bytes n) (overlapOf c) ≡ joined (laidWord starts lens bytes (c .first)) (laidWord starts lens bytes (c .second)) (c .shared)
+    pub found-word : listWord (laidWords starts lens bytes n) (overlapOf c) ≡ overlapJoined (laidWord starts lens bytes (c .first)) (laidWord starts lens bytes (c .second)) (c .shared)
     found-word = rw (laid-at starts lens bytes n (c .first) a, laid-at starts lens bytes n (c .second) b)
 
     pub found-length : (k : ℕ) → 1 ≤ getD lens (c .first) 0
-        → length (lineOf k (overlapOf c) (wordOf (laidWords starts lens bytes n) (overlapOf c)))
+        → length (listLine k (overlapOf c) (listWord (laidWords starts lens bytes n) (overlapOf c)))
         ≡ lineLength k (overlapOf c) (getD lens (c .first) 0 + (getD lens (c .second) 0 - c .shared))
     found-length k s =
         let p = laid-word-length starts lens bytes n h (c .first) a in
@@ -106,9 +106,9 @@ module _ (starts lens bytes : List ℕ) (n : ℕ) where
 
     -- what its line asks
     pub found-asked : n ≤ 64 → c .shared < getD lens (c .first) 0 → c .shared < getD lens (c .second) 0
-        → (k at : ℕ) (out : List ℕ) → at + length (lineOf k (overlapOf c) (wordOf (laidWords starts lens bytes n) (overlapOf c))) ≤ length out
+        → (k at : ℕ) (out : List ℕ) → at + length (listLine k (overlapOf c) (listWord (laidWords starts lens bytes n) (overlapOf c))) ≤ length out
         → ((c .first < 64) × (c .second < 64) × (c .shared ≤ length (laidWord starts lens bytes (c .second))) × (1 ≤ length (laidWord starts lens bytes (c .first))))
-        × (at + length (lineOf k (overlapOf c) (joined (laidWord starts lens bytes (c .first)) (laidWord starts lens bytes (c .second)) (c .shared))) ≤ length out)
+        × (at + length (listLine k (overlapOf c) (overlapJoined (laidWord starts lens bytes (c .first)) (laidWord starts lens bytes (c .second)) (c .shared))) ≤ length out)
     found-asked f x y k at out l =
         let p = laid-word-length starts lens bytes n h (c .first) a in
         let q = laid-word-length starts lens bytes n h (c .second) b in

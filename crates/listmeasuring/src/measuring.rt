@@ -11,7 +11,7 @@ ghost use lib.ListN.{length, getD};
 ghost use Rattle.words.specs.Laid.{laidWords, Laid};
 ghost use Rattle.text.specs.Number.{writeNumber};
 ghost use Rattle.overlaps.specs.Overlaps.{overlaps};
-ghost use Rattle.overlaps.specs.Position.{overlapOf, Short};
+ghost use Rattle.overlaps.specs.Position.{overlapOf, AtMost24};
 ghost use Rattle.overlaps.specs.Listing.{lineLength, overlapText};
 
 // How many digits a number below 100,000 has.
@@ -49,7 +49,7 @@ fn letters(lens: &[usize], c: Cursor) -> usize
 // The number of overlaps, and of the bytes of their list.
 pub fn measure(starts: &[usize], lens: &[usize], bytes: &[u8], n: usize) -> Measure
     requires { ⌜ Laid (now starts) (now lens) (now bytes) n ⌝ }
-    requires { ⌜ (n ≤ 64) × Short (now lens) n ⌝ }
+    requires { ⌜ (n ≤ 64) × AtMost24 (now lens) n ⌝ }
     ensures { λ r. ⌜ r .count ≡ length (overlaps (laidWords (now (starts .entry)) (now (lens .entry)) (now (bytes .entry)) n)) ⌝ }
     ensures { λ r. ⌜ r .bytes ≡ length (overlapText (laidWords (now (starts .entry)) (now (lens .entry)) (now (bytes .entry)) n)) ⌝ }
     ensures { λ r. ⌜ (r .count ≤ 98304) × (r .bytes ≤ 16000000) ⌝ }

@@ -10,9 +10,9 @@ use Rattle.words.specs.Word.{Word}
 use Rattle.text.specs.Number.{writeNumber}
 use Rattle.lists.proofs.Stores.{stored-then}
 use Rattle.overlaps.specs.declared.Cursor.{Cursor}
-use Rattle.overlaps.specs.Overlaps.{joined}
+use Rattle.overlaps.specs.Overlaps.{overlapJoined}
 use Rattle.overlaps.specs.Position.{overlapOf}
-use Rattle.overlaps.specs.Listing.{spaced, lineOf}
+use Rattle.overlaps.specs.Listing.{spaced, listLine}
 use Rattle.listmeasuring.proofs.Lines.{spaced-length, line-parts}
 
 -- the place behind two texts that stand one behind the other
@@ -71,12 +71,12 @@ module _ (k : ℕ) (c : Cursor) (u v : Word) (h : 1 ≤ length u) where
   abbrev front : List ℕ
   front = four k (c .first + 1) (c .second + 1) (c .shared)
 
-  overlap-parts : lineOf k (overlapOf c) (joined u v (c .shared)) ≡ front ++ (u ++ (drop (c .shared) v ++ (10 ∷ [])))
+  overlap-parts : listLine k (overlapOf c) (overlapJoined u v (c .shared)) ≡ front ++ (u ++ (drop (c .shared) v ++ (10 ∷ [])))
   overlap-parts =
       line-parts k (overlapOf c) u v (c .shared) h
       ∙ ap₂ (λ (x y : ℕ). four k x y (c .shared) ++ (u ++ (drop (c .shared) v ++ (10 ∷ [])))) (sym (add-one (c .first))) (sym (add-one (c .second)))
 
-  pub overlap-length : length (lineOf k (overlapOf c) (joined u v (c .shared))) ≡ length front + length u + (length v - c .shared) + 1
+  pub overlap-length : length (listLine k (overlapOf c) (overlapJoined u v (c .shared))) ≡ length front + length u + (length v - c .shared) + 1
   overlap-length =
       ap (λ (l : List ℕ). length l) overlap-parts
       ∙ omega (
@@ -91,7 +91,7 @@ module _ (k : ℕ) (c : Cursor) (u v : Word) (h : 1 ≤ length u) where
       → (p ≡ at + length front) × (l₁ ≡ sets l at front)
       → (q ≡ p + length u) × (l₂ ≡ sets l₁ p u)
       → (r ≡ q + length (take (length v - c .shared) (drop (c .shared) v))) × (l₃ ≡ sets l₂ q (take (length v - c .shared) (drop (c .shared) v)))
-      → (r + 1 ≡ at + length (lineOf k (overlapOf c) (joined u v (c .shared)))) × (set l₃ r 10 ≡ sets l at (lineOf k (overlapOf c) (joined u v (c .shared))))
+      → (r + 1 ≡ at + length (listLine k (overlapOf c) (overlapJoined u v (c .shared)))) × (set l₃ r 10 ≡ sets l at (listLine k (overlapOf c) (overlapJoined u v (c .shared))))
   overlap-stored l l₁ l₂ l₃ at p q r (x₁, y₁) (x₂, y₂) (x₃, y₃) =
       let x₄ = rw (rest v (c .shared)) at x₃ in
       let y₄ = rw (rest v (c .shared)) at y₃ in

@@ -9,8 +9,8 @@ use lib.Seq.{sets, length-sets}
 use Rattle.words.specs.Laid.{laidWords, Laid}
 use Rattle.lists.proofs.Stores.{sets-append}
 use Rattle.overlaps.specs.declared.Cursor.{Cursor}
-use Rattle.overlaps.specs.Position.{overlapsAt, overlapOf, behind, origin, ordinal, Short}
-use Rattle.overlaps.specs.Listing.{wordOf, lineOf, overlapLines, allLines}
+use Rattle.overlaps.specs.Position.{overlapsAt, overlapOf, behind, origin, ordinal, AtMost24}
+use Rattle.overlaps.specs.Listing.{listWord, listLine, overlapLines, allLines}
 use Rattle.overlaps.proofs.Positions.{at-origin}
 use Rattle.listmeasuring.proofs.Walking.{Walking, Step, walking-start}
 
@@ -25,7 +25,7 @@ pub record Writing (starts lens bytes : List ℕ) (n : ℕ) (out₀ : List ℕ) 
   pub same-length : length out ≡ length out₀
 
 module _ (starts lens bytes : List ℕ) (n : ℕ) (out₀ : List ℕ) (at : ℕ) where
-  pub writing-start : Laid starts lens bytes n → n ≤ 64 → Short lens n
+  pub writing-start : Laid starts lens bytes n → n ≤ 64 → AtMost24 lens n
       → at + length (allLines (laidWords starts lens bytes n)) ≤ length out₀
       → Writing starts lens bytes n out₀ at out₀ at origin 1
   writing-start h f s l =
@@ -44,7 +44,7 @@ module _ (starts lens bytes : List ℕ) (n : ℕ) (out₀ : List ℕ) (at : ℕ)
 
     module _ (c : Cursor) (s : Step starts lens bytes n from c) where
       abbrev line : List ℕ
-      line = lineOf k (overlapOf c) (wordOf (laidWords starts lens bytes n) (overlapOf c))
+      line = listLine k (overlapOf c) (listWord (laidWords starts lens bytes n) (overlapOf c))
 
       abbrev others : List ℕ
       others = overlapLines (laidWords starts lens bytes n) (suc k) (overlapsAt (laidWords starts lens bytes n) (behind c))

@@ -10,9 +10,9 @@ ghost use Prim.Native.Nat.{_+_, _≤_, _<_};
 ghost use lib.ListN.{length, getD};
 ghost use lib.Seq.{sets};
 ghost use Rattle.words.specs.Laid.{laidWords, Laid};
-ghost use Rattle.overlaps.specs.Overlaps.{joined};
-ghost use Rattle.overlaps.specs.Position.{overlapOf, Short};
-ghost use Rattle.overlaps.specs.Listing.{spaced, wordOf, lineOf, allLines, overlapText};
+ghost use Rattle.overlaps.specs.Overlaps.{overlapJoined};
+ghost use Rattle.overlaps.specs.Position.{overlapOf, AtMost24};
+ghost use Rattle.overlaps.specs.Listing.{spaced, listWord, listLine, allLines, overlapText};
 
 // A number and a space behind it, written to out from the place at on. The answer is the place behind them.
 fn put_spaced(out: &mut [u8], at: usize, n: usize) -> usize
@@ -47,9 +47,9 @@ fn put_numbers(
 // An overlap's line, number k of the list, for the words u and v.
 fn put_line(out: &mut [u8], at: usize, k: usize, c: Cursor, u: &[u8], v: &[u8]) -> usize
     requires { ⌜ (c .first < 64) × (c .second < 64) × (c .shared ≤ length (now v)) × (1 ≤ length (now u)) ⌝ }
-    requires { ⌜ at + length (lineOf k (overlapOf c) (joined (now u) (now v) (c .shared))) ≤ length (now out) ⌝ }
-    ensures { λ r. ⌜ r ≡ at + length (lineOf k (overlapOf c) (joined (now (u .entry)) (now (v .entry)) (c .shared))) ⌝ }
-    ensures { λ _. ⌜ now (out .exit) ≡ sets (now (out .entry)) at (lineOf k (overlapOf c) (joined (now (u .entry)) (now (v .entry)) (c .shared))) ⌝ }
+    requires { ⌜ at + length (listLine k (overlapOf c) (overlapJoined (now u) (now v) (c .shared))) ≤ length (now out) ⌝ }
+    ensures { λ r. ⌜ r ≡ at + length (listLine k (overlapOf c) (overlapJoined (now (u .entry)) (now (v .entry)) (c .shared))) ⌝ }
+    ensures { λ _. ⌜ now (out .exit) ≡ sets (now (out .entry)) at (listLine k (overlapOf c) (overlapJoined (now (u .entry)) (now (v .entry)) (c .shared))) ⌝ }
 {
     let shared = c.shared;
     let d = put_numbers(out, at, k, c.first + 1, c.second + 1, shared);
@@ -72,9 +72,9 @@ fn put_overlap(
 ) -> usize
     requires { ⌜ Laid (now starts) (now lens) (now bytes) n ⌝ }
     requires { ⌜ (n ≤ 64) × (c .first < n) × (c .second < n) × (c .shared < getD (now lens) (c .first) 0) × (c .shared < getD (now lens) (c .second) 0) ⌝ }
-    requires { ⌜ at + length (lineOf k (overlapOf c) (wordOf (laidWords (now starts) (now lens) (now bytes) n) (overlapOf c))) ≤ length (now out) ⌝ }
-    ensures { λ r. ⌜ r ≡ at + length (lineOf k (overlapOf c) (wordOf (laidWords (now (starts .entry)) (now (lens .entry)) (now (bytes .entry)) n) (overlapOf c))) ⌝ }
-    ensures { λ _. ⌜ now (out .exit) ≡ sets (now (out .entry)) at (lineOf k (overlapOf c) (wordOf (laidWords (now (starts .entry)) (now (lens .entry)) (now (bytes .entry)) n) (overlapOf c))) ⌝ }
+    requires { ⌜ at + length (listLine k (overlapOf c) (listWord (laidWords (now starts) (now lens) (now bytes) n) (overlapOf c))) ≤ length (now out) ⌝ }
+    ensures { λ r. ⌜ r ≡ at + length (listLine k (overlapOf c) (listWord (laidWords (now (starts .entry)) (now (lens .entry)) (now (bytes .entry)) n) (overlapOf c))) ⌝ }
+    ensures { λ _. ⌜ now (out .exit) ≡ sets (now (out .entry)) at (listLine k (overlapOf c) (listWord (laidWords (now (starts .entry)) (now (lens .entry)) (now (bytes .entry)) n) (overlapOf c))) ⌝ }
 {
     let first = c.first;
     let second = c.second;
@@ -95,7 +95,7 @@ fn write_lines(
     at: usize,
 ) -> usize
     requires { ⌜ Laid (now starts) (now lens) (now bytes) n ⌝ }
-    requires { ⌜ (n ≤ 64) × Short (now lens) n ⌝ }
+    requires { ⌜ (n ≤ 64) × AtMost24 (now lens) n ⌝ }
     requires { ⌜ at + length (allLines (laidWords (now starts) (now lens) (now bytes) n)) ≤ length (now out) ⌝ }
     ensures { λ r. ⌜ r ≡ at + length (allLines (laidWords (now (starts .entry)) (now (lens .entry)) (now (bytes .entry)) n)) ⌝ }
     ensures { λ _. ⌜ now (out .exit) ≡ sets (now (out .entry)) at (allLines (laidWords (now (starts .entry)) (now (lens .entry)) (now (bytes .entry)) n)) ⌝ }
@@ -121,7 +121,7 @@ fn write_lines(
 // The overlap list, written to out from its beginning on. The answer is how many bytes it has.
 pub fn write_list(starts: &[usize], lens: &[usize], bytes: &[u8], n: usize, out: &mut [u8]) -> usize
     requires { ⌜ Laid (now starts) (now lens) (now bytes) n ⌝ }
-    requires { ⌜ (n ≤ 64) × Short (now lens) n ⌝ }
+    requires { ⌜ (n ≤ 64) × AtMost24 (now lens) n ⌝ }
     requires { ⌜ length (overlapText (laidWords (now starts) (now lens) (now bytes) n)) ≤ length (now out) ⌝ }
     ensures { λ r. ⌜ r ≡ length (overlapText (laidWords (now (starts .entry)) (now (lens .entry)) (now (bytes .entry)) n)) ⌝ }
     ensures { λ _. ⌜ now (out .exit) ≡ sets (now (out .entry)) 0 (overlapText (laidWords (now (starts .entry)) (now (lens .entry)) (now (bytes .entry)) n)) ⌝ }

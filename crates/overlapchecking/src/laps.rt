@@ -14,7 +14,7 @@ ghost use Rattle.field.specs.Field.{fieldOf};
 ghost use Rattle.words.specs.Order.{wordOrder};
 ghost use Rattle.words.specs.Laid.{laidWords, Laid};
 ghost use Rattle.overlaps.specs.Overlaps.{leads, overlaps};
-ghost use Rattle.overlaps.specs.Position.{Short};
+ghost use Rattle.overlaps.specs.Position.{AtMost24};
 ghost use Rattle.package.specs.Names.{sumO};
 ghost use Rattle.acceptance.specs.Check.{itemsJudged};
 ghost use Rattle.sumlines.specs.Heads.{HeadsOf};
@@ -36,7 +36,7 @@ fn first_above(
     line: usize,
 ) -> usize
     requires { ⌜ Laid (now heads) (now headlens) (now bytes) n ⌝ }
-    requires { ⌜ (n ≤ 64) × Short (now headlens) n ⌝ }
+    requires { ⌜ (n ≤ 64) × AtMost24 (now headlens) n ⌝ }
     requires { ⌜ (at ≤ length (now bytes)) × (line ≤ at + 4) × (1 ≤ line) × (length (now bytes) ≤ 65536) ⌝ }
     requires { ⌜ Counted line (sumsAt (now bytes) at line) ⌝ }
     ensures { λ r. ⌜ told 15 r ≡ itemsJudged (length (overlaps (laidWords (now (heads .entry)) (now (headlens .entry)) (now (bytes .entry)) n))) (sumsAt (now (bytes .entry)) at line) ⌝ }

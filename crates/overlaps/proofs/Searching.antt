@@ -11,13 +11,13 @@ use Rattle.words.specs.Laid.{laidWord, laidWords, Laid}
 use Rattle.words.proofs.LaidWords.{laid-length, laid-at, laid-word-length}
 use Rattle.overlaps.specs.declared.Cursor.{Cursor}
 use Rattle.overlaps.specs.declared.Next.the-variants.{Overlap, Done}
-use Rattle.overlaps.specs.Position.{sharedBy, overlapsAt, seenNext, pairAfter, ordinal, Placed, Short, FoundAt, Ahead}
+use Rattle.overlaps.specs.Position.{sharedBy, overlapsAt, seenOverlap, pairAfter, ordinal, Placed, AtMost24, FoundAt, Ahead}
 use Rattle.overlaps.proofs.Positions.{at-found, found-bounds, at-next, at-end}
 
 pub record Searching (starts lens bytes : List ℕ) (n : ℕ) (c₀ c : Cursor) : Type 0 where
   pub laid : Laid starts lens bytes n
   pub few : n ≤ 64
-  pub short : Short lens n
+  pub short : AtMost24 lens n
   pub placed : Placed n c
   pub later : ordinal c₀ ≤ ordinal c
   pub same : overlapsAt (laidWords starts lens bytes n) c ≡ overlapsAt (laidWords starts lens bytes n) c₀
@@ -45,7 +45,7 @@ further n c h p l = go (decLt (suc (c .second)) n)
         (record { placed = record { row = λ x. omega (arith, b, m); some = omega (arith, b, m); most = omega (arith, b, m) }; ordinal-le = omega (arith, b, m); falls = omega (arith, b, m) })
 
 module _ (starts lens bytes : List ℕ) (n : ℕ) (c₀ : Cursor) where
-  pub searching-start : Laid starts lens bytes n → n ≤ 64 → Short lens n → Placed n c₀ → Searching starts lens bytes n c₀ c₀
+  pub searching-start : Laid starts lens bytes n → n ≤ 64 → AtMost24 lens n → Placed n c₀ → Searching starts lens bytes n c₀ c₀
   searching-start h f s p = record { laid = h; few = f; short = s; placed = p; later = omega arith; same = refl }
 
   module _ (c : Cursor) (h : Searching starts lens bytes n c₀ c) where
@@ -66,9 +66,9 @@ module _ (starts lens bytes : List ℕ) (n : ℕ) (c₀ : Cursor) where
       second-is = laid-at starts lens bytes n (c .second) second-in
 
       pub searching-found : (r : ℕ) → sharedBy (laidWord starts lens bytes (c .first)) (laidWord starts lens bytes (c .second)) (c .shared) ≡ At r
-          → (seenNext (laidWords starts lens bytes n) (Overlap (record { first = c .first; second = c .second; shared = r })) ≡ overlapsAt (laidWords starts lens bytes n) c₀)
+          → (seenOverlap (laidWords starts lens bytes n) (Overlap (record { first = c .first; second = c .second; shared = r })) ≡ overlapsAt (laidWords starts lens bytes n) c₀)
           × Ahead lens n c₀ (Overlap (record { first = c .first; second = c .second; shared = r }))
-      unfolding seenNext Ahead
+      unfolding seenOverlap Ahead
       searching-found r e =
           let e' = rw (← first-is, ← second-is) at e in
           let b = found-bounds (laidWords starts lens bytes n) c r e' in
@@ -98,8 +98,8 @@ module _ (starts lens bytes : List ℕ) (n : ℕ) (c₀ : Cursor) where
             same = rw k at (at-next (laidWords starts lens bytes n) c (omega arith) e') ∙ h .same;
           }
 
-    pub searching-end : n ≤ c .first → (seenNext (laidWords starts lens bytes n) Done ≡ overlapsAt (laidWords starts lens bytes n) c₀) × Ahead lens n c₀ Done
-    unfolding seenNext Ahead
+    pub searching-end : n ≤ c .first → (seenOverlap (laidWords starts lens bytes n) Done ≡ overlapsAt (laidWords starts lens bytes n) c₀) × Ahead lens n c₀ Done
+    unfolding seenOverlap Ahead
     searching-end l =
         let k = laid-length starts lens bytes n in
         (sym (at-end (laidWords starts lens bytes n) c (omega arith)) ∙ h .same, tt)

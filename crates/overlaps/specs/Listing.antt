@@ -6,7 +6,7 @@ use Rattle.words.specs.Word.{Word}
 use Rattle.text.specs.Ascii.{ascii}
 use Rattle.text.specs.Number.{writeNumber}
 use Rattle.text.specs.Word.{writeWord}
-use Rattle.overlaps.specs.Overlaps.{Overlap, joined, overlaps}
+use Rattle.overlaps.specs.Overlaps.{Overlap, overlapJoined, overlaps}
 
 -- The names line.
 abbrev pub overlapNames : List ℕ
@@ -17,19 +17,19 @@ abbrev pub spaced : ℕ → List ℕ → List ℕ
 spaced n text = writeNumber n ++ (32 ∷ text)
 
 -- The overlap word of an overlap of the words of a list, numbered from 1.
-abbrev pub wordOf : List Word → Overlap → Word
-wordOf ws o = joined (getD ([] ∷ ws) (o .first) []) (getD ([] ∷ ws) (o .second) []) (o .shared)
+abbrev pub listWord : List Word → Overlap → Word
+listWord ws o = overlapJoined (getD ([] ∷ ws) (o .first) []) (getD ([] ∷ ws) (o .second) []) (o .shared)
 
 -- Line number k below the names line: item, first, second, shared and the overlap word, fields parted by one space, ended by byte 10.
-unfoldable pub lineOf : ℕ → Overlap → Word → List ℕ
+unfoldable pub listLine : ℕ → Overlap → Word → List ℕ
 unfolding writeNumber writeWord
-lineOf k o w = spaced k (spaced (o .first) (spaced (o .second) (spaced (o .shared) (writeWord w ++ (10 ∷ [])))))
+listLine k o w = spaced k (spaced (o .first) (spaced (o .second) (spaced (o .shared) (writeWord w ++ (10 ∷ [])))))
 
 -- The lines of overlaps, numbered from k on.
 unfoldable pub overlapLines : List Word → ℕ → List Overlap → List ℕ
-unfolding lineOf
+unfolding listLine
 overlapLines ws k [] = []
-overlapLines ws k (o ∷ os) = lineOf k o (wordOf ws o) ++ overlapLines ws (suc k) os
+overlapLines ws k (o ∷ os) = listLine k o (listWord ws o) ++ overlapLines ws (suc k) os
 
 -- The lines of all overlaps of a list of leading words, numbered from 1.
 abbrev pub allLines : List Word → List ℕ

@@ -84,13 +84,13 @@ leads [] = []
 leads (f ∷ ps) = lead f ∷ leads ps
 
 -- The first word followed by the unshared rest of the second.
-abbrev pub joined : Word → Word → ℕ → Word
-joined u v shared = u ++ drop shared v
+abbrev pub overlapJoined : Word → Word → ℕ → Word
+overlapJoined u v shared = u ++ drop shared v
 
 -- Overlap word: the first leading word followed by the unshared rest of the second.
 unfoldable pub overlapWord : Family → Overlap → Word
 unfolding lead
-overlapWord G o = joined (lead (G (o .first))) (lead (G (o .second))) (o .shared)
+overlapWord G o = overlapJoined (lead (G (o .first))) (lead (G (o .second))) (o .shared)
 
 -- Difference: first polynomial × that rest, minus (the first leading word without its shared end) × second polynomial.
 unfoldable pub difference : Operations → Family → Overlap → Poly

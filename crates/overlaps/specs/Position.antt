@@ -43,10 +43,10 @@ abbrev pub behind : Cursor → Cursor
 behind c = record { first = c .first; second = c .second; shared = suc (c .shared) }
 
 -- The list that begins with what was found.
-unfoldable pub seenNext : List Word → Next → List O.Overlap
+unfoldable pub seenOverlap : List Word → Next → List O.Overlap
 unfolding overlapsAt
-seenNext ws Done = []
-seenNext ws (Overlap c) = overlapOf c ∷ overlapsAt ws (behind c)
+seenOverlap ws Done = []
+seenOverlap ws (Overlap c) = overlapOf c ∷ overlapsAt ws (behind c)
 
 -- The pair behind a pair of n words.
 unfoldable pub pairAfter : Cursor → ℕ → Cursor
@@ -70,8 +70,8 @@ pub record Placed (n : ℕ) (c : Cursor) : Type 0 where
   pub most : c .shared ≤ 24
 
 -- No word has over 24 letters.
-abbrev pub Short : List ℕ → ℕ → Type 0
-Short lens n = (g : ℕ) → g < n → getD lens g 0 ≤ 24
+abbrev pub AtMost24 : List ℕ → ℕ → Type 0
+AtMost24 lens n = (g : ℕ) → g < n → getD lens g 0 ≤ 24
 
 -- An overlap of two of n words, no earlier than a place.
 pub record FoundAt (lens : List ℕ) (n : ℕ) (from c : Cursor) : Type 0 where

@@ -7,7 +7,7 @@ ghost use mathlib.Core.Path.{_≡_};
 ghost use Prim.Native.Nat.{ℕ, _+_, _*_, _≤_, _<_};
 ghost use lib.ListN.{length, getD};
 ghost use Rattle.words.specs.Laid.{laidWord, laidWords, Laid};
-ghost use Rattle.overlaps.specs.Position.{sharedBy, overlapsAt, seenNext, behind, pairAfter, Placed, Short, Ahead};
+ghost use Rattle.overlaps.specs.Position.{sharedBy, overlapsAt, seenOverlap, behind, pairAfter, Placed, AtMost24, Ahead};
 
 // The pair of leading words behind a pair.
 fn next_pair(c: Cursor, n: usize) -> Cursor
@@ -48,8 +48,8 @@ fn shared_at(starts: &[usize], lens: &[usize], bytes: &[u8], n: usize, c: Cursor
 // The first overlap from a place on.
 pub fn next_overlap(starts: &[usize], lens: &[usize], bytes: &[u8], n: usize, from: Cursor) -> Next
     requires { ⌜ Laid (now starts) (now lens) (now bytes) n ⌝ }
-    requires { ⌜ (n ≤ 64) × Short (now lens) n × Placed n from ⌝ }
-    ensures { λ r. ⌜ seenNext (laidWords (now (starts .entry)) (now (lens .entry)) (now (bytes .entry)) n) r ≡ overlapsAt (laidWords (now (starts .entry)) (now (lens .entry)) (now (bytes .entry)) n) from ⌝ }
+    requires { ⌜ (n ≤ 64) × AtMost24 (now lens) n × Placed n from ⌝ }
+    ensures { λ r. ⌜ seenOverlap (laidWords (now (starts .entry)) (now (lens .entry)) (now (bytes .entry)) n) r ≡ overlapsAt (laidWords (now (starts .entry)) (now (lens .entry)) (now (bytes .entry)) n) from ⌝ }
     ensures { λ r. ⌜ Ahead (now (lens .entry)) n from r ⌝ }
 {
     let mut c = from;

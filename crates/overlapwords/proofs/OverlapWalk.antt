@@ -10,19 +10,19 @@ use Rattle.words.specs.Word.{Word}
 use Rattle.overlaps.specs.declared.Cursor.{Cursor}
 use Rattle.overlaps.specs.declared.Next.{Next}
 use Rattle.overlaps.specs.declared.Next.the-variants.{Overlap, Done}
-use Rattle.overlaps.specs.Position.{overlapsAt, overlapOf, behind, origin, ordinal, seenNext, Placed, Short, FoundAt, Ahead}
+use Rattle.overlaps.specs.Position.{overlapsAt, overlapOf, behind, origin, ordinal, seenOverlap, Placed, AtMost24, FoundAt, Ahead}
 use Rattle.overlapwords.specs.declared.OverlapAt.{OverlapAt}
 use Rattle.overlapwords.specs.OverlapPlaces.{cursorOf, behindAll, seenOverlaps, Overlapped}
 
 -- what the search gives, as an overlap that is present or not
-module _ (ws : List Word) (lens : List ℕ) (n : ℕ) (from : Cursor) (r : Next) (e : seenNext ws r ≡ overlapsAt ws from) (a : Ahead lens n from r) where
+module _ (ws : List Word) (lens : List ℕ) (n : ℕ) (from : Cursor) (r : Next) (e : seenOverlap ws r ≡ overlapsAt ws from) (a : Ahead lens n from r) where
   pub search-found : (c : Cursor) → r ≡ Overlap c
       → (seenOverlaps ws (record { present = true; first = c .first; second = c .second; shared = c .shared }) ≡ overlapsAt ws from) × FoundAt lens n from c
-  unfolding seenOverlaps seenNext Ahead
+  unfolding seenOverlaps seenOverlap Ahead
   search-found c q = (rw q at e, rw q at a)
 
   pub search-done : (f : OverlapAt) → f .present ≡ false → r ≡ Done → seenOverlaps ws f ≡ overlapsAt ws from
-  unfolding seenOverlaps seenNext
+  unfolding seenOverlaps seenOverlap
   search-done f p q = rw (seenOverlaps, p) (rw q at e)
 
 -- the place behind, as the code has it
@@ -38,7 +38,7 @@ pub record Walked (lens : List ℕ) (n i : ℕ) (f : OverlapAt) : Type 0 where
   pub gone : f .present ≡ false → ordinal (cursorOf f) ≡ behindAll
   pub few : i ≤ ordinal (cursorOf f)
 
-module _ (lens : List ℕ) (n : ℕ) (S : Short lens n) (N : n ≤ 64) where
+module _ (lens : List ℕ) (n : ℕ) (S : AtMost24 lens n) (N : n ≤ 64) where
   overlapped : (from : Cursor) (f : OverlapAt) → FoundAt lens n from (cursorOf f) → Overlapped lens n f
   overlapped from f a = record {
     first = a .first;

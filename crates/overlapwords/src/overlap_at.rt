@@ -10,7 +10,7 @@ ghost use Prim.Native.Nat.{_≤_};
 ghost use lib.ListN.{length};
 ghost use Rattle.words.specs.Laid.{laidWords, Laid};
 ghost use Rattle.overlaps.specs.Overlaps.{overlaps};
-ghost use Rattle.overlaps.specs.Position.{overlapsAt, origin, behind, ordinal, Placed, Short, FoundAt};
+ghost use Rattle.overlaps.specs.Position.{overlapsAt, origin, behind, ordinal, Placed, AtMost24, FoundAt};
 ghost use Rattle.overlapwords.specs.OverlapPlaces.{cursorOf, behindAll, seenOverlaps};
 
 // The first overlap from a place on.
@@ -22,7 +22,7 @@ pub fn overlap_from(
     from: Cursor,
 ) -> OverlapAt
     requires { ⌜ Laid (now heads) (now headlens) (now bytes) n ⌝ }
-    requires { ⌜ (n ≤ 64) × Short (now headlens) n × Placed n from ⌝ }
+    requires { ⌜ (n ≤ 64) × AtMost24 (now headlens) n × Placed n from ⌝ }
     ensures { λ r. ⌜ seenOverlaps (laidWords (now (heads .entry)) (now (headlens .entry)) (now (bytes .entry)) n) r ≡ overlapsAt (laidWords (now (heads .entry)) (now (headlens .entry)) (now (bytes .entry)) n) from ⌝ }
     ensures { λ r. ⌜ (r .present ≡ true → FoundAt (now (headlens .entry)) n from (cursorOf r)) ⌝ }
     ensures { λ r. ⌜ (r .present ≡ false → ordinal (cursorOf r) ≡ behindAll) ⌝ }
@@ -53,7 +53,7 @@ pub fn overlap_behind(
     f: OverlapAt,
 ) -> OverlapAt
     requires { ⌜ Laid (now heads) (now headlens) (now bytes) n ⌝ }
-    requires { ⌜ (n ≤ 64) × Short (now headlens) n × Placed n (behind (cursorOf f)) ⌝ }
+    requires { ⌜ (n ≤ 64) × AtMost24 (now headlens) n × Placed n (behind (cursorOf f)) ⌝ }
     ensures { λ r. ⌜ seenOverlaps (laidWords (now (heads .entry)) (now (headlens .entry)) (now (bytes .entry)) n) r ≡ overlapsAt (laidWords (now (heads .entry)) (now (headlens .entry)) (now (bytes .entry)) n) (behind (cursorOf f)) ⌝ }
     ensures { λ r. ⌜ (r .present ≡ true → FoundAt (now (headlens .entry)) n (behind (cursorOf f)) (cursorOf r)) ⌝ }
     ensures { λ r. ⌜ (r .present ≡ false → ordinal (cursorOf r) ≡ behindAll) ⌝ }
@@ -74,7 +74,7 @@ pub fn overlap_behind(
 // The first overlap of all.
 pub fn first_overlap(heads: &[usize], headlens: &[usize], bytes: &[u8], n: usize) -> OverlapAt
     requires { ⌜ Laid (now heads) (now headlens) (now bytes) n ⌝ }
-    requires { ⌜ (n ≤ 64) × Short (now headlens) n ⌝ }
+    requires { ⌜ (n ≤ 64) × AtMost24 (now headlens) n ⌝ }
     ensures { λ r. ⌜ seenOverlaps (laidWords (now (heads .entry)) (now (headlens .entry)) (now (bytes .entry)) n) r ≡ overlaps (laidWords (now (heads .entry)) (now (headlens .entry)) (now (bytes .entry)) n) ⌝ }
     ensures { λ r. ⌜ (r .present ≡ true → FoundAt (now (headlens .entry)) n origin (cursorOf r)) ⌝ }
     ensures { λ r. ⌜ (r .present ≡ false → ordinal (cursorOf r) ≡ behindAll) ⌝ }
@@ -95,7 +95,7 @@ pub fn first_overlap(heads: &[usize], headlens: &[usize], bytes: &[u8], n: usize
 // How many overlaps there are.
 pub fn count_overlaps(heads: &[usize], headlens: &[usize], bytes: &[u8], n: usize) -> usize
     requires { ⌜ Laid (now heads) (now headlens) (now bytes) n ⌝ }
-    requires { ⌜ (n ≤ 64) × Short (now headlens) n ⌝ }
+    requires { ⌜ (n ≤ 64) × AtMost24 (now headlens) n ⌝ }
     ensures { λ r. ⌜ r ≡ length (overlaps (laidWords (now (heads .entry)) (now (headlens .entry)) (now (bytes .entry)) n)) ⌝ }
 {
     let mut count = 0;

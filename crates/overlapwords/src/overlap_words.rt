@@ -18,7 +18,7 @@ ghost use Rattle.words.specs.Laid.{laidWord, Laid};
 ghost use Rattle.algebra.specs.Ideal.{family};
 ghost use Rattle.algebra.specs.Written.{Written, written};
 ghost use Rattle.overlaps.specs.Overlaps.{difference};
-ghost use Rattle.overlaps.specs.Position.{overlapOf, Short};
+ghost use Rattle.overlaps.specs.Position.{overlapOf, AtMost24};
 ghost use Rattle.words.specs.Below.{isBelow};
 ghost use Rattle.working.specs.Working.{formula, Working};
 ghost use Rattle.working.specs.Family.{familyAt, Terms, Runs};
@@ -72,7 +72,7 @@ pub fn is_under(
     top: &mut [u8],
 ) -> bool
     requires { ⌜ Laid (now heads) (now headlens) (now bytes) n ⌝ }
-    requires { ⌜ Short (now headlens) n ⌝ }
+    requires { ⌜ AtMost24 (now headlens) n ⌝ }
     requires { ⌜ LineFits p (now bytes) n s ⌝ }
     requires { ⌜ (72 ≤ length (now top)) × (k ≤ length (now lap)) ⌝ }
     ensures { λ r. ⌜ r ≡ isBelow (laidTop (now (heads .entry)) (now (headlens .entry)) (now (bytes .entry)) s) (take k (now (lap .entry))) ⌝ }

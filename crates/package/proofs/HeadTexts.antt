@@ -9,7 +9,7 @@ use Rattle.package.proofs.LineBounds.{HeadBounds}
 use Rattle.package.specs.Answer.{read, _then_}
 use Rattle.package.specs.Head.{HeadForm, noHead, head, headForm, primeFits, countsFit}
 use Rattle.package.specs.Names.{headNames, termNames}
-use Rattle.package.specs.Package.{namesLine, Counted, countsJudged, countsLine, HeadBlock, firstTerm, termNamesLine, headLines}
+use Rattle.package.specs.Package.{namesLine, CountsBlock, countsJudged, countsLine, HeadBlock, firstTerm, termNamesLine, headLines}
 use Rattle.package.specs.Writing.{headFields}
 use Rattle.package.specs.declared.Head.{Head}
 use Rattle.lists.proofs.Sameness.{same-eq}
@@ -28,12 +28,12 @@ names-text names n (piece l ls) ms e = go (same l names) refl
     go true q = ap₂ piece (same-eq l names q) (read-injective ls ms (rw (namesLine, q) at e))
 
 -- The line of counts.
-record CountsText (ps : Pieces) (c : Counted) : Type 0 where
+record CountsText (ps : Pieces) (c : CountsBlock) : Type 0 where
   prime : primeFits (c .head .p) ≡ true
   counts : countsFit (c .head) ≡ true
   cut : ps ≡ piece (writeFields (headFields (c .head))) (c .rest)
 
-counts-text : (ps : Pieces) (c : Counted) → countsLine ps ≡ read c → CountsText ps c
+counts-text : (ps : Pieces) (c : CountsBlock) → countsLine ps ≡ read c → CountsText ps c
 unfolding countsLine countsJudged
 counts-text (final x) c e = absurd (refused-not-read 2 2 c e)
 counts-text (piece l ls) c e = by-form (headForm (fields l)) refl
@@ -43,8 +43,8 @@ counts-text (piece l ls) c e = by-form (headForm (fields l)) refl
     by-tests h q true false a b = absurd (refused-not-read 4 2 c (rw (countsLine, q, countsJudged, a, b) at e))
     by-tests h q true true a b =
         let z = read-injective (record { head = h; rest = ls }) c (rw (countsLine, q, countsJudged, a, b) at e) in
-        let x : h ≡ c .head = ap (λ (d : Counted). d .head) z in
-        let y : ls ≡ c .rest = ap (λ (d : Counted). d .rest) z in
+        let x : h ≡ c .head = ap (λ (d : CountsBlock). d .head) z in
+        let y : ls ≡ c .rest = ap (λ (d : CountsBlock). d .rest) z in
         record {
           prime = rw (← x) a;
           counts = rw (← x) b;
@@ -67,7 +67,7 @@ pub head-lines-text : (ps : Pieces) (b : HeadBlock) → headLines ps ≡ read b 
 unfolding headLines termNamesLine
 head-lines-text ps b e =
     let u = then-read (namesLine headNames 1 ps then countsLine) termNamesLine b e in
-    let c : Counted = u .0 in
+    let c : CountsBlock = u .0 in
     let v = then-read (namesLine headNames 1 ps) countsLine c (u .1) in
     let w = then-read (namesLine termNames 3 (c .rest)) (λ (ls : Pieces). read (record { head = c .head; line = firstTerm; rest = ls })) b (u .2) in
     let z = read-injective (record { head = c .head; line = firstTerm; rest = w .0 }) b (w .2) in

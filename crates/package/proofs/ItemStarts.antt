@@ -10,7 +10,7 @@ use lib.Dec.{ltb}
 use lib.ListN.{length, getD, drop, set, length-append, drop-of-length-le, List·getD-append}
 use lib.Seq.{drop-cons, getD-set-same, getD-set-other, getD-at}
 use borrow.Author.Tests.{lt-ltb, le-ltb, ltb-true}
-use Rattle.package.specs.Held.{termAt, kept, slotsHeld}
+use Rattle.package.specs.Held.{heldTerm, heldTerms, slotsHeld}
 use Rattle.package.specs.Items.{slot, slotsOf, firstOf}
 use Rattle.package.specs.Terms.{TermLine}
 use Rattle.package.specs.declared.Head.{Head}
@@ -37,13 +37,13 @@ module _ (h : Head) (ks is : List ℕ) where
           List·getD-append (slotsHeld h ks is n) (slot h (getD ks n 0) (getD is n 0) ∷ []) 0 m (omega arith) ∙ ih k
 
 -- They are those of the terms that the slices hold.
-pub slots-kept : (h : Head) (s ks is cs os ls : List ℕ) (n : ℕ) → slotsOf h (kept s ks is cs os ls n) ≡ slotsHeld h ks is n
-unfolding slotsOf slotsHeld kept
+pub slots-kept : (h : Head) (s ks is cs os ls : List ℕ) (n : ℕ) → slotsOf h (heldTerms s ks is cs os ls n) ≡ slotsHeld h ks is n
+unfolding slotsOf slotsHeld heldTerms
 slots-kept h s ks is cs os ls zero = refl
-slots-kept h s ks is cs os ls (suc n) = append (kept s ks is cs os ls n) ∙ ap (λ (xs : List ℕ). xs ++ (slot h (getD ks n 0) (getD is n 0) ∷ []))
+slots-kept h s ks is cs os ls (suc n) = append (heldTerms s ks is cs os ls n) ∙ ap (λ (xs : List ℕ). xs ++ (slot h (getD ks n 0) (getD is n 0) ∷ []))
     (slots-kept h s ks is cs os ls n)
   where
-    append : (ts : List TermLine) → slotsOf h (ts ++ (termAt s ks is cs os ls n ∷ [])) ≡ slotsOf h ts ++ (slot h (getD ks n 0) (getD is n 0) ∷ [])
+    append : (ts : List TermLine) → slotsOf h (ts ++ (heldTerm s ks is cs os ls n ∷ [])) ≡ slotsOf h ts ++ (slot h (getD ks n 0) (getD is n 0) ∷ [])
     append [] = refl
     append (t ∷ ts) = ap (λ (xs : List ℕ). slot h (t .kind) (t .item) ∷ xs) (append ts)
 

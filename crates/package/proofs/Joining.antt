@@ -10,9 +10,9 @@ use Rattle.package.proofs.HeadTexts.{head-lines-text}
 use Rattle.package.proofs.TermBlockTexts.{block2-text}
 use Rattle.package.specs.Answer.{Answer, refused, read, _then_}
 use Rattle.package.specs.Head.{noHead, head, headForm, primeFits, countsFit}
-use Rattle.package.specs.Held.{seenNames, seenCounts, seenHeadLines, kept, seenTerms, seenSums}
+use Rattle.package.specs.Held.{seenNames, seenCounts, seenHeadLines, heldTerms, seenTerms, seenSums}
 use Rattle.package.specs.Names.{headNames, termNames}
-use Rattle.package.specs.Package.{namesLine, Counted, countsJudged, countsLine, HeadBlock, firstTerm, firstSum, termNamesLine, headLines, termBlock, sumBlock, sized, readWith}
+use Rattle.package.specs.Package.{namesLine, CountsBlock, countsJudged, countsLine, HeadBlock, firstTerm, firstSum, termNamesLine, headLines, termBlock, sumBlock, sized, readWith}
 use Rattle.package.specs.Sums.{sumsRead, block3, sumsOf}
 use Rattle.package.specs.Terms.{start, TermBlock, termsRead, block2}
 use Rattle.package.specs.declared.CountsAt.{CountsAt}
@@ -40,7 +40,7 @@ module _ (s : List ℕ) (n : ℕ) (r : NamesRead) (x : Answer Pieces) where
   unfolding seenNames
   seen-next e q h = sym h ∙ rw q
 
-module _ (s : List ℕ) (r : CountsRead) (x : Answer Counted) where
+module _ (s : List ℕ) (r : CountsRead) (x : Answer CountsBlock) where
   pub counts-refused : (v : Refusal) → r ≡ CountsRead.Refused v → seenCounts s r ≡ x → x ≡ refused (v .number) (v .place)
   unfolding seenCounts
   counts-refused v q h = sym h ∙ rw q
@@ -65,7 +65,7 @@ module _ (h : Head) (s ks is cs os ls : List ℕ) (r : TermsEnded) (x : Answer T
   terms-refused v q e = sym e ∙ rw q
 
   pub terms-read : (t : TermsAt) → r ≡ TermsEnded.Read t → seenTerms h s ks is cs os ls r ≡ x
-      → x ≡ termsRead h (kept s ks is cs os ls (t .terms)) (t .line) (lines (drop (t .at) s))
+      → x ≡ termsRead h (heldTerms s ks is cs os ls (t .terms)) (t .line) (lines (drop (t .at) s))
   unfolding seenTerms
   terms-read t q e = sym e ∙ rw q
 
@@ -129,7 +129,7 @@ module _ (ls : Pieces) where
     unfolding headLines _then_
     line2-refused v n f = rw (headLines, e, f)
 
-    module _ (c : Counted) (f : countsLine ms ≡ read c) where
+    module _ (c : CountsBlock) (f : countsLine ms ≡ read c) where
       pub line3-refused : (v n : ℕ) → namesLine termNames 3 (c .rest) ≡ refused v n → refused v n ≡ headLines ls
       unfolding headLines termNamesLine _then_
       line3-refused v n g = rw (headLines, e, f, termNamesLine, g)

@@ -8,7 +8,7 @@ use lib.ListN.{length}
 use Rattle.package.specs.Answer.{Answer, refused, read, _then_}
 use Rattle.package.specs.Head.{HeadForm, noHead, head, headForm, primeFits, countsFit}
 use Rattle.package.specs.Names.{headNames, termNames, sumNames}
-use Rattle.package.specs.Package.{packageLimits, namesLine, Counted, countsJudged, countsLine, HeadBlock, firstTerm, termNamesLine, headLines, termBlock, sumBlock, sized, readWith, readPackage}
+use Rattle.package.specs.Package.{packageLimits, namesLine, CountsBlock, countsJudged, countsLine, HeadBlock, firstTerm, termNamesLine, headLines, termBlock, sumBlock, sized, readWith, readPackage}
 use Rattle.package.specs.Sums.{SumForm, noSum, sum, sumForm, sumFits, sumFollows, SumVerdict, judged3, judgeSum, atEnd, block3, sumsOf}
 use Rattle.package.specs.Terms.{TermLine, TermForm, noTerm, term, termForm, LineAbove, start, termFits, follows, hasRoom, counted, TermVerdict, refusedBy, accept, judged, judgeTerm, TermBlock, termsRead, block2}
 use Rattle.package.specs.declared.Head.{Head}
@@ -45,7 +45,7 @@ unfolding Numbered countsJudged
 counts-numbered noHead ls = (lit≤ tt, lit≤ tt)
 counts-numbered (head h) ls = go (primeFits (h .p)) (countsFit h)
   where
-    go : (t u : Bool) → Numbered {A = Counted} (elim t [ false ↦ refused 3 2 | true ↦ elim u [ false ↦ refused 4 2 | true ↦ read (record { head = h; rest = ls }) ] ])
+    go : (t u : Bool) → Numbered {A = CountsBlock} (elim t [ false ↦ refused 3 2 | true ↦ elim u [ false ↦ refused 4 2 | true ↦ read (record { head = h; rest = ls }) ] ])
     go false u = (lit≤ tt, lit≤ tt)
     go true false = (lit≤ tt, lit≤ tt)
     go true true = tt

@@ -8,7 +8,7 @@ use Rattle.package.specs.Answer.{Answer, refused, read}
 use Rattle.package.specs.Formula.{FormulaOutcome, wrongAt, formula, TermRow, noRow, row}
 use Rattle.package.specs.Head.{HeadForm, noHead, head}
 use Rattle.package.specs.Items.{slot, firstOf}
-use Rattle.package.specs.Package.{Outcome, Counted, HeadBlock, firstSum}
+use Rattle.package.specs.Package.{Outcome, CountsBlock, HeadBlock, firstSum}
 use Rattle.package.specs.Sums.{SumForm, noSum, sum, sumForm, sumsRead, block3, sumsOf}
 use Rattle.package.specs.Terms.{TermLine, TermForm, noTerm, term, LineAbove, TermVerdict, refusedBy, accept, TermBlock, termsRead}
 use Rattle.package.specs.declared.CountsRead.{CountsRead}
@@ -50,7 +50,7 @@ seenHead HeadRead.Misshapen = noHead
 seenHead (HeadRead.Counts p l g b) = head (record { p = p; letters = l; gens = g; basis = b })
 
 -- Line 2 of the text s.
-unfoldable pub seenCounts : List ℕ → CountsRead → Answer Counted
+unfoldable pub seenCounts : List ℕ → CountsRead → Answer CountsBlock
 unfolding pieces
 seenCounts s (CountsRead.Refused r) = refused (r .number) (r .place)
 seenCounts s (CountsRead.Read c) = read (record { head = c .head; rest = lines (drop (c .at) s) })
@@ -97,27 +97,27 @@ abbrev pub aboveOf : List ℕ → Last → LineAbove
 aboveOf s last = record { kind = last .kind; item = last .item; word = part s (last .start) (last .len); count = last .count }
 
 -- The term at the place n of the slices, and the first n terms that they hold.
-abbrev pub termAt : List ℕ → List ℕ → List ℕ → List ℕ → List ℕ → List ℕ → ℕ → TermLine
-termAt s ks is cs os ls n = record { kind = getD ks n 0; item = getD is n 0; coef = getD cs n 0; word = part s (getD os n 0) (getD ls n 0) }
+abbrev pub heldTerm : List ℕ → List ℕ → List ℕ → List ℕ → List ℕ → List ℕ → ℕ → TermLine
+heldTerm s ks is cs os ls n = record { kind = getD ks n 0; item = getD is n 0; coef = getD cs n 0; word = part s (getD os n 0) (getD ls n 0) }
 
-unfoldable pub kept : List ℕ → List ℕ → List ℕ → List ℕ → List ℕ → List ℕ → ℕ → List TermLine
-kept s ks is cs os ls zero = []
-kept s ks is cs os ls (suc n) = kept s ks is cs os ls n ++ (termAt s ks is cs os ls n ∷ [])
+unfoldable pub heldTerms : List ℕ → List ℕ → List ℕ → List ℕ → List ℕ → List ℕ → ℕ → List TermLine
+heldTerms s ks is cs os ls zero = []
+heldTerms s ks is cs os ls (suc n) = heldTerms s ks is cs os ls n ++ (heldTerm s ks is cs os ls n ∷ [])
 
 -- Block 2 of the text s, behind the counts h.
 unfoldable pub seenTerms : Head → List ℕ → List ℕ → List ℕ → List ℕ → List ℕ → List ℕ → TermsEnded → Answer TermBlock
-unfolding kept pieces
+unfolding heldTerms pieces
 seenTerms h s ks is cs os ls (TermsEnded.Refused r) = refused (r .number) (r .place)
-seenTerms h s ks is cs os ls (TermsEnded.Read t) = termsRead h (kept s ks is cs os ls (t .terms)) (t .line) (lines (drop (t .at) s))
+seenTerms h s ks is cs os ls (TermsEnded.Read t) = termsRead h (heldTerms s ks is cs os ls (t .terms)) (t .line) (lines (drop (t .at) s))
 
 -- Every word that the slices hold lies in the bytes.
-abbrev pub Inside : List ℕ → List ℕ → List ℕ → ℕ → Type 0
-Inside s os ls n = (i : ℕ) → i < n → getD os i 0 + getD ls i 0 ≤ length s
+abbrev pub WordsInside : List ℕ → List ℕ → List ℕ → ℕ → Type 0
+WordsInside s os ls n = (i : ℕ) → i < n → getD os i 0 + getD ls i 0 ≤ length s
 
 -- Terms that are not refused are at most 1,024, their words lie in the text, and the first sum line starts in it. Each line takes a byte or more, but for four.
 unfoldable pub TermsHeld : List ℕ → List ℕ → List ℕ → TermsEnded → Type 0
 TermsHeld s os ls (TermsEnded.Refused r) = Unit {0}
-TermsHeld s os ls (TermsEnded.Read t) = ((t .terms ≤ 1024) × Inside s os ls (t .terms)) × (t .at ≤ length s) × (t .line ≤ t .at + 4)
+TermsHeld s os ls (TermsEnded.Read t) = ((t .terms ≤ 1024) × WordsInside s os ls (t .terms)) × (t .at ≤ length s) × (t .line ≤ t .at + 4)
 
 -- The numbers of the items of the first n terms.
 unfoldable pub slotsHeld : Head → List ℕ → List ℕ → ℕ → List ℕ
@@ -176,9 +176,9 @@ seenSums SumsEnded.Sound = sumsRead
 
 -- A package.
 unfoldable pub seenAll : List ℕ → List ℕ → List ℕ → List ℕ → List ℕ → List ℕ → Reading → Outcome
-unfolding kept pieces sumsOf
+unfolding heldTerms pieces sumsOf
 seenAll s ks is cs os ls (Reading.Refused r) = refused (r .number) (r .place)
-seenAll s ks is cs os ls (Reading.Whole h m at n) = read (record { head = h; terms = kept s ks is cs os ls m; sums = sumsOf n (lines (drop at s)) })
+seenAll s ks is cs os ls (Reading.Whole h m at n) = read (record { head = h; terms = heldTerms s ks is cs os ls m; sums = sumsOf n (lines (drop at s)) })
 
 -- Its number of terms, of relations and of basis polynomials, where its sum lines start, and the number of the first of them.
 unfoldable pub countAll : Reading → ℕ
@@ -207,13 +207,13 @@ LineHeld (Reading.Refused r) = Unit {0}
 LineHeld (Reading.Whole h m at n) = n ≡ firstSum m
 
 -- For each item number j up to the one after the last, fs says where the terms of item j start among the first n.
-abbrev pub Marked : Head → List ℕ → List ℕ → ℕ → List ℕ → Type 0
-Marked h ks is n fs = (j : ℕ) → j < h .gens + h .basis + 2 → getD fs j 0 ≡ firstOf j (slotsHeld h ks is n)
+abbrev pub StartsMarked : Head → List ℕ → List ℕ → ℕ → List ℕ → Type 0
+StartsMarked h ks is n fs = (j : ℕ) → j < h .gens + h .basis + 2 → getD fs j 0 ≡ firstOf j (slotsHeld h ks is n)
 
 unfoldable pub FirstsHeld : List ℕ → List ℕ → List ℕ → Reading → Type 0
 unfolding slotsHeld firstOf
 FirstsHeld ks is fs (Reading.Refused r) = Unit {0}
-FirstsHeld ks is fs (Reading.Whole h m at n) = Marked h ks is m fs
+FirstsHeld ks is fs (Reading.Whole h m at n) = StartsMarked h ks is m fs
 
 -- A term of a formula in the line l, and where its word ends.
 unfoldable pub seenRow : List ℕ → RowRead → TermRow

@@ -37,12 +37,12 @@ namesLine names n (final x) = refused 2 n
 namesLine names n (piece l ls) = elim (same l names) [ false ↦ refused 2 n | true ↦ read ls ]
 
 -- What the line of counts leaves: the counts, and the lines behind it.
-pub record Counted : Type 0 where
+pub record CountsBlock : Type 0 where
   pub head : Head
   pub rest : Pieces
 
 -- What line 2 says: its shape, then 3 for p, then 4 for the other counts.
-unfoldable pub countsJudged : HeadForm → Pieces → Answer Counted
+unfoldable pub countsJudged : HeadForm → Pieces → Answer CountsBlock
 unfolding primeFits countsFit
 countsJudged noHead ls = refused 2 2
 countsJudged (head h) ls = elim (primeFits (h .p)) [
@@ -51,7 +51,7 @@ countsJudged (head h) ls = elim (primeFits (h .p)) [
 ]
 
 -- Line 2: the counts.
-unfoldable pub countsLine : Pieces → Answer Counted
+unfoldable pub countsLine : Pieces → Answer CountsBlock
 unfolding countsJudged headForm pieces
 countsLine (final x) = refused 2 2
 countsLine (piece l ls) = countsJudged (headForm (fields l)) ls
@@ -71,7 +71,7 @@ abbrev pub firstSum : ℕ → ℕ
 firstSum terms = firstTerm + 1 + terms
 
 -- Line 3: the names of block 2.
-unfoldable pub termNamesLine : Counted → Answer HeadBlock
+unfoldable pub termNamesLine : CountsBlock → Answer HeadBlock
 unfolding namesLine _then_
 termNamesLine c = namesLine termNames 3 (c .rest) then λ ls. read (record { head = c .head; line = firstTerm; rest = ls })
 

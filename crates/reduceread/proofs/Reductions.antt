@@ -10,7 +10,7 @@ use Rattle.algebra.specs.Poly.{Poly}
 use Rattle.algebra.specs.Steps.{Ended, run}
 use Rattle.package.specs.declared.Head.{Head}
 use Rattle.package.specs.declared.FormulaRead.the-variants.{Formula}
-use Rattle.package.specs.Held.{seenFormula, Inside}
+use Rattle.package.specs.Held.{seenFormula, WordsInside}
 use Rattle.package.specs.Formula.{FormulaOutcome, wrongAt, formula, readFormula}
 use Rattle.package.specs.Package.{Package, refused}
 use Rattle.package.proofs.LineBounds.{head-bounds}
@@ -32,7 +32,7 @@ pub accepted-letters : (bytes cs os ls fs : List ℕ) (h : Head) (m : ℕ) → P
 accepted-letters bytes cs os ls fs h m a = rw (a .head) at (head-bounds (a .whole .head) (a .readable .prime) (a .readable .counts) .letters)
 
 -- What `read_formula` answers lies in the slices, cut to the terms that were read.
-pub formula-lies : (h : Head) (s cs os ls : List ℕ) (n : ℕ) → seenFormula s cs os ls (Formula n) ≡ readFormula (h .p) (h .letters) formulaLimits s → n ≤ 48 → Inside s os ls n
+pub formula-lies : (h : Head) (s cs os ls : List ℕ) (n : ℕ) → seenFormula s cs os ls (Formula n) ≡ readFormula (h .p) (h .letters) formulaLimits s → n ≤ 48 → WordsInside s os ls n
     → length cs ≡ 48 → length os ≡ 48 → length ls ≡ 48 → FormulaRead h (take (n - 0) cs) (take (n - 0) os) (take (n - 0) ls) s
 formula-lies h s cs os ls n e few inside lc lo ll =
     let z : n ≡ n - 0 = omega arith in

@@ -8,7 +8,7 @@ use native.Mathlib.Omega.{arith}
 use lib.ListN.{length, drop, set}
 use Rattle.package.proofs.TermSlices.{kept-length, kept-store}
 use Rattle.package.specs.Answer.{refused}
-use Rattle.package.specs.Held.{aboveOf, kept}
+use Rattle.package.specs.Held.{aboveOf, heldTerms}
 use Rattle.package.specs.Names.{sumNames}
 use Rattle.package.specs.Terms.{TermLine, LineAbove, counted, refusedBy, accept, judgeTerm, termsRead, block2}
 use Rattle.package.specs.declared.Head.{Head}
@@ -45,15 +45,15 @@ module _ (h : Head) (lim : Limits) (a : LineAbove) (ts : List TermLine) (n : ℕ
 module _ (h : Head) (lim : Limits) (s : List ℕ) (last : Last) (ks is cs os ls : List ℕ) (n line at e : ℕ) (k i c o l : ℕ) (ks′ is′ cs′ os′ ls′ : List ℕ)
     (a : ks′ ≡ set ks n k) (b : is′ ≡ set is n i) (d : cs′ ≡ set cs n c) (f : os′ ≡ set os n o) (g : ls′ ≡ set ls n l)
     (x : length ks ≡ 1024) (y : length is ≡ 1024) (z : length cs ≡ 1024) (u : length os ≡ 1024) (v : length ls ≡ 1024) (fits : n < 1024) where
-  stored : kept s ks′ is′ cs′ os′ ls′ (n + 1) ≡ kept s ks is cs os ls n ++ (record { kind = k; item = i; coef = c; word = part s o l } ∷ [])
+  stored : heldTerms s ks′ is′ cs′ os′ ls′ (n + 1) ≡ heldTerms s ks is cs os ls n ++ (record { kind = k; item = i; coef = c; word = part s o l } ∷ [])
   stored = rw (a, b, d, f, g, add-one n) (kept-store s ks is cs os ls n k i c o l (omega arith) (omega arith) (omega arith) (omega arith) (omega arith))
 
   pub turn-again : e ≡ at + stop 10 (drop at s) → e < length s → same (part s at (e - at)) sumNames ≡ false → judgeTerm h lim (aboveOf s last) n
       (part s at (e - at)) ≡ accept k i c (part s o l)
       → (m : ℕ) → m ≡ counted (aboveOf s last) k i
-      → block2 h lim (record { kind = k; item = i; word = part s o l; count = m }) (kept s ks′ is′ cs′ os′ ls′ (n + 1)) (line + 1)
-      (lines (drop (e + 1) s)) ≡ block2 h lim (aboveOf s last) (kept s ks is cs os ls n) line (lines (drop at s))
+      → block2 h lim (record { kind = k; item = i; word = part s o l; count = m }) (heldTerms s ks′ is′ cs′ os′ ls′ (n + 1)) (line + 1)
+      (lines (drop (e + 1) s)) ≡ block2 h lim (aboveOf s last) (heldTerms s ks is cs os ls n) line (lines (drop at s))
   turn-again q w t j m r =
-      let j′ : judgeTerm h lim (aboveOf s last) (length (kept s ks is cs os ls n)) (part s at (e - at)) ≡ accept k i c (part s o l) = rw
+      let j′ : judgeTerm h lim (aboveOf s last) (length (heldTerms s ks is cs os ls n)) (part s at (e - at)) ≡ accept k i c (part s o l) = rw
       (kept-length s ks is cs os ls n) j in
-      rw (stored, add-one line, r) (turn-accepted h lim (aboveOf s last) (kept s ks is cs os ls n) line s at e q w t k i c (part s o l) j′)
+      rw (stored, add-one line, r) (turn-accepted h lim (aboveOf s last) (heldTerms s ks is cs os ls n) line s at e q w t k i c (part s o l) j′)

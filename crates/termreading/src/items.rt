@@ -6,7 +6,7 @@ ghost use mathlib.Core.Path.{_≡_};
 ghost use Prim.Native.Nat.{ℕ, _+_, _<_, _≤_};
 ghost use lib.ListN.{length, getD, drop};
 ghost use Rattle.package.specs.Items.{slot, firstOf};
-ghost use Rattle.package.specs.Held.{slotsHeld, Marked};
+ghost use Rattle.package.specs.Held.{slotsHeld, StartsMarked};
 
 // The number of an item among all items, counted from 1.
 fn slot_of(h: Head, kind: u32, item: u32) -> usize
@@ -38,7 +38,7 @@ fn skip_terms(h: Head, kinds: &[u32], items: &[u32], n: usize, at: usize, j: usi
 pub fn mark_items(h: Head, kinds: &[u32], items: &[u32], n: usize, firsts: &mut [usize])
     requires { ⌜ (h .gens ≤ 32) × (h .basis ≤ 64) ⌝ }
     requires { ⌜ (n ≤ length (now kinds)) × (n ≤ length (now items)) × (length (now firsts) ≡ 98) ⌝ }
-    ensures { λ _. ⌜ Marked h (now (kinds .entry)) (now (items .entry)) n (now (firsts .exit)) ⌝ }
+    ensures { λ _. ⌜ StartsMarked h (now (kinds .entry)) (now (items .entry)) n (now (firsts .exit)) ⌝ }
 {
     let end = h.gens as usize + h.basis as usize + 2;
     let mut m = 0;

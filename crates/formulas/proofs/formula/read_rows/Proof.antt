@@ -8,7 +8,7 @@ use borrow.Author.Needs.{needs}
 use denote.Ref.{now}
 use Rattle.package.proofs.FormulaLines.{seen-no-row, seen-row, reach-row, row-room}
 use Rattle.package.specs.Formula.{rows}
-use Rattle.package.specs.Held.{Inside, rowsHeld, seenFormula, countFormula}
+use Rattle.package.specs.Held.{WordsInside, rowsHeld, seenFormula, countFormula}
 use Rattle.package.specs.Terms.{start}
 use Rattle.text.specs.Pieces.{lines, part}
 use Rattle.formulas.proofs.FormulaTurns.{rows-end, rows-missing, rows-wrong, rows-length, rows-again, rows-inside}
@@ -23,7 +23,7 @@ Inv-loop s p letters m from coefs₀ starts₀ lens₀ n₀ start₀ len₀ at�
     × ((length coefs ≡ length coefs₀) × (length starts ≡ length starts₀) × (length lens ≡ length lens₀))
     × (start + len ≤ length s)
     × (rows p letters m (part s start len) (rowsHeld s coefs starts lens n) line (lines (drop at s)) ≡ rows p letters m [] [] 2 (lines (drop from s)))
-    × Inside s starts lens n
+    × WordsInside s starts lens n
 
 abbrev μ-loop : tie.MeasureT-loop
 μ-loop s p letters m from coefs₀ starts₀ lens₀ n₀ start₀ len₀ at₀ line₀ coefs starts lens n start len at line = length s - at

@@ -4,7 +4,7 @@ use Prim.Native.Nat.{_+_, _-_, _*_, _≤_}
 use native.Mathlib.Omega.{arith}
 use lib.ListN.{length}
 use Rattle.words.specs.Laid.{laidWords}
-use Rattle.leads.specs.Index.{Holds}
+use Rattle.leads.specs.Index.{IndexHolds}
 use Rattle.words.proofs.LaidWords.{laid-length}
 use Rattle.leads.proofs.LeadingWords.{leads-few, lead-part, part-short}
 use Rattle.leads.proofs.Marks.{holds-start, holds-end}
@@ -19,7 +19,7 @@ Inv-loop starts lens bytes n index₀ g₀ index g =
     × (n ≤ length starts)
     × (n ≤ length lens)
     × (length index ≡ length index₀)
-    × Holds (laidWords starts lens bytes n) (g * 25) index
+    × IndexHolds (laidWords starts lens bytes n) (g * 25) index
 
 abbrev μ-loop : tie.MeasureT-loop
 μ-loop starts lens bytes n index₀ g₀ index g = n - g

@@ -6,7 +6,7 @@ use native.Mathlib.Nat.{add-zero}
 use native.Mathlib.Omega.{arith}
 use lib.ListN.{length, getD}
 use Rattle.words.specs.Word.{Word}
-use Rattle.leads.specs.Index.{Holds}
+use Rattle.leads.specs.Index.{IndexHolds}
 use Rattle.leads.proofs.Marks.{letter-marked, end-marked}
 use borrow.Author.Needs.{needs}
 use Rattle.leads.proofs.filling.fill_word.Statement.{statement}
@@ -16,7 +16,7 @@ abbrev Inv-loop : tie.InvT-loop
 Inv-loop word g index₀ k₀ index k =
     (k ≤ length word)
     × (length index ≡ length index₀)
-    × ((ls : List Word) → getD ls g [] ≡ word → Holds ls (g * 25) index₀ → Holds ls (g * 25 + k) index)
+    × ((ls : List Word) → getD ls g [] ≡ word → IndexHolds ls (g * 25) index₀ → IndexHolds ls (g * 25 + k) index)
 
 abbrev μ-loop : tie.MeasureT-loop
 μ-loop word g index₀ k₀ index k = length word - k

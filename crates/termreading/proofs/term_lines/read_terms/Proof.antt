@@ -9,7 +9,7 @@ use borrow.Author.Needs.{needs}
 use denote.Ref.{now}
 use Rattle.package.proofs.TermJudging.{counted-word, seen-refused, seen-accepted, reach-judged, judged-room}
 use Rattle.package.proofs.TermSlices.{kept-length, inside-store}
-use Rattle.package.specs.Held.{aboveOf, kept, seenTerms, Inside, TermsHeld}
+use Rattle.package.specs.Held.{aboveOf, heldTerms, seenTerms, WordsInside, TermsHeld}
 use Rattle.package.specs.Terms.{start, block2}
 use Rattle.text.specs.Pieces.{lines}
 use Rattle.termreading.proofs.TermTurns.{turn-missing, turn-names, turn-refused, turn-again}
@@ -28,14 +28,14 @@ Inv-loop h m s from first kinds₀ items₀ coefs₀ starts₀ lens₀ last₀ n
     × (length lens ≡ 1024)
     × (last .count ≤ m .terms)
     × (last .start + last .len ≤ length s)
-    × (block2 h m (aboveOf s last) (kept s kinds items coefs starts lens n) line (lines (drop at s)) ≡ block2 h m start [] first (lines (drop from s)))
-    × Inside s starts lens n
+    × (block2 h m (aboveOf s last) (heldTerms s kinds items coefs starts lens n) line (lines (drop at s)) ≡ block2 h m start [] first (lines (drop from s)))
+    × WordsInside s starts lens n
 
 abbrev μ-loop : tie.MeasureT-loop
 μ-loop h m s from first kinds₀ items₀ coefs₀ starts₀ lens₀ last₀ n₀ at₀ line₀ kinds items coefs starts lens last n at line = length s - at
 
 loop-holds : tie.Need-loop-holds Inv-loop μ-loop
-unfolding start kept
+unfolding start heldTerms
 loop-holds c = (
   search needs,
   search needs,
@@ -75,7 +75,7 @@ returns c =
     let x = c .before .before .loop in
     let a = c .before .before .before .before .before .before .before .before .before .args in
     let s = now (a .s) in (
-      turn-missing (a .h) (a .m) (aboveOf s (x .last)) (kept s (x .kinds) (x .items) (x .coefs) (x .starts) (x .lens) (x .n)) (x .line) s (x .at) _
+      turn-missing (a .h) (a .m) (aboveOf s (x .last)) (heldTerms s (x .kinds) (x .items) (x .coefs) (x .starts) (x .lens) (x .n)) (x .line) s (x .at) _
           (c .before .find .ensures .0) (c .if1 .taken) ∙ x .inv .10,
       tt,
     )
@@ -120,7 +120,7 @@ returns-2 c =
     let x = f .before .loop in
     let a = f .before .before .before .before .before .before .before .before .args in
     let s = now (a .s) in (
-      rw add-one (turn-names (a .h) (a .m) (aboveOf s (x .last)) (kept s (x .kinds) (x .items) (x .coefs) (x .starts) (x .lens) (x .n)) (x .line) s
+      rw add-one (turn-names (a .h) (a .m) (aboveOf s (x .last)) (heldTerms s (x .kinds) (x .items) (x .coefs) (x .starts) (x .lens) (x .n)) (x .line) s
           (x .at) _ (f .find .ensures .0) (c .before .before .before .if1 .left) (sym (c .before .is-sum-names .ensures) ∙ c .if2 .taken) ∙ x .inv .10),
       ((x .inv .2 .0, x .inv .11), omega (arith, c .before .before .before .if1 .left), omega (arith, x .inv .1, f .find .ensures .1 .1)),
     )
@@ -156,7 +156,7 @@ returns-3 c =
     let s = now (a .s) in
     let j = seen-refused s _ _ _ (c .before .j .given .1) (t .judge-term .ensures .0) in
     let k = rw (← kept-length s (x .kinds) (x .items) (x .coefs) (x .starts) (x .lens) (x .n)) at j in (
-      turn-refused (a .h) (a .m) (aboveOf s (x .last)) (kept s (x .kinds) (x .items) (x .coefs) (x .starts) (x .lens) (x .n)) (x .line) s (x .at) _
+      turn-refused (a .h) (a .m) (aboveOf s (x .last)) (heldTerms s (x .kinds) (x .items) (x .coefs) (x .starts) (x .lens) (x .n)) (x .line) s (x .at) _
           (f .find .ensures .0) (t .before .before .before .before .if1 .left) (sym (t .before .before .is-sum-names .ensures) ∙ t .before .if2 .left) _ k ∙ x .inv .10,
       tt,
     )
