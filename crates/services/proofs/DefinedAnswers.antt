@@ -16,12 +16,11 @@ use Rattle.services.specs.declared.Listed.{Listed}
 use Rattle.services.specs.declared.Shortened.{Shortened}
 use Rattle.services.specs.Services.{checkAnswer, checkedAs, listAnswer, listedAs, listOutput, listedInto, shortAnswer, shortenedAs, shortOutput, shortenedInto, memberAnswer, membershipAs}
 use Rattle.services.specs.Demands.{AcceptedAs, ReadAs, OverlapsOf, ListsOverlaps, ShortensBySteps, DecidesBySteps}
-use Rattle.services.proofs.Room.{room-listed}
+use Rattle.services.proofs.Room.{room-listed, short-room}
 use Rattle.services.proofs.OutputStart.{fitted-start}
 use Rattle.services.proofs.Answers.{acceptance-is}
 use Rattle.services.proofs.NumberZero.{accepted-as, list-answered, short-ran, member-ran}
 use Rattle.services.proofs.StepsByRule.{only-steps}
-use Rattle.services.proofs.Rows.{with-room}
 
 overlaps-of : (P : Package) → OverlapsOf P (overlaps (leads (basis P)))
 overlaps-of P = record { all = listed-iff (leads (basis P)); order = overlaps-rising (leads (basis P)) }
@@ -57,7 +56,7 @@ pub short-by-steps : (bytes text : List ℕ) (budget : ℕ) (out : List ℕ) →
 unfolding shortenedAs shortenedInto shortOutput
 short-by-steps bytes text budget out n =
     let (N, m, r, l, x) = short-ran bytes text budget (length out) n in
-    let a = ap (shortAnswer (length out)) r ∙ with-room N m (length out) l in (
+    let a = ap (shortAnswer (length out)) r ∙ short-room N m (length out) l in (
       x .content,
       x .input,
       accepted-as bytes (x .content) (x .accepted),

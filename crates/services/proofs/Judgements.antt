@@ -12,8 +12,8 @@ use Rattle.acceptance.specs.Acceptance.{acceptance}
 use Rattle.acceptance.specs.Reduction.{formulaLimits, refusedBy, shortForm, formulaReduced, packageReduced, reduction}
 use Rattle.services.specs.Services.{checkAnswer, checkedAs, shortAnswer, shortenedAs, memberAnswer, membershipAs}
 use Rattle.services.specs.Demands.{AcceptedAs, refusedShort}
+use Rattle.services.proofs.Room.{short-no-room}
 use Rattle.services.proofs.Answers.{acceptance-is}
-use Rattle.services.proofs.Rows.{without-room}
 
 pub package-first : (bytes text : List ℕ) (budget : ℕ) → checkedAs bytes .number ≢ 0
     → reduction bytes text budget ≡ refusedBy (checkedAs bytes .number) (checkedAs bytes .place)
@@ -37,4 +37,4 @@ refusals-told bytes text budget n k e room = (ap (shortAnswer room) e, ap member
 pub room-last : (bytes text : List ℕ) (budget m : ℕ) (N : Poly) → reduction bytes text budget ≡ shortForm N m
     → (room : ℕ) → room < length (writeFormula N) → shortenedAs bytes text budget room ≡ refusedShort 19 (length (writeFormula N))
 unfolding shortenedAs
-room-last bytes text budget m N e room l = ap (shortAnswer room) e ∙ without-room N m room l
+room-last bytes text budget m N e room l = ap (shortAnswer room) e ∙ short-no-room N m room l

@@ -12,7 +12,6 @@ use Rattle.overlaps.specs.Overlaps.{overlaps}
 use Rattle.overlaps.specs.Listing.{overlapText}
 use Rattle.acceptance.specs.Reduction.{shortForm}
 use Rattle.services.specs.declared.Listed.{Listed}
-use Rattle.services.specs.declared.Shortened.{Shortened}
 use Rattle.services.specs.Services.{wordsListed, fitted, shortAnswer}
 
 -- A refusal of listing, as an answer.
@@ -38,10 +37,7 @@ pub room-written : (text out : List ℕ) → length text ≤ length out → fitt
 unfolding fitted
 room-written text out l = rw (fitted, le-ltb (length out) (length text) l)
 
--- Short form: a refusal as an answer, too little room, and room.
-abbrev pub refusedShort : ℕ → ℕ → Shortened
-refusedShort n k = record { number = n; place = k; steps = 0; written = 0 }
-
+-- Short form: too little room, and room.
 pub short-no-room : (N : Poly) (steps room : ℕ) → room < length (writeFormula N)
     → shortAnswer room (shortForm N steps) ≡ record { number = 19; place = length (writeFormula N); steps = 0; written = 0 }
 unfolding shortAnswer

@@ -5,7 +5,6 @@ use Prim.Native.Nat.{ℕ, _≤_, _<_}
 use native.Mathlib.Nat.{zero-add}
 use native.Mathlib.Omega.{arith}
 use lib.ListN.{length}
-use borrow.Author.Tests.{lt-ltb, le-ltb}
 use Rattle.field.specs.Field.{fieldOf}
 use Rattle.words.specs.declared.Comparison.the-variants.{Above}
 use Rattle.words.specs.Word.{Word}
@@ -22,10 +21,9 @@ use Rattle.acceptance.specs.Content.{basis}
 use Rattle.acceptance.specs.Acceptance.{acceptance}
 use Rattle.acceptance.specs.Reduction.{formulaLimits, refusedBy, shortForm, reductionOf, formulaReduced, packageReduced, reduction}
 use Rattle.services.specs.Services.{listable, checkAnswer, checkedAs, listAnswer, listedAs, listOutput, listedInto, shortAnswer, shortenedAs, shortOutput, shortenedInto, memberAnswer, membershipAs}
-use Rattle.services.specs.Demands.{refusedShort}
 use Rattle.services.specs.Examples.{Shortens, IsAbove, Lists, IsAccepted, IsMember, Refuses}
 use Rattle.services.proofs.Budgets.{run-more, run-fewer}
-use Rattle.services.proofs.Room.{no-room, no-room-kept, room-listed}
+use Rattle.services.proofs.Room.{no-room, no-room-kept, room-listed, short-no-room, short-room}
 use Rattle.services.proofs.OutputStart.{fitted-start}
 
 -- A short form after m steps comes of a run that took them.
@@ -63,16 +61,6 @@ module _ (bytes : List ℕ) (P : Package) (acc : acceptance bytes ≡ read P) (t
   unfolding reduction packageReduced
   reduced-less budget h = ap (packageReduced text budget) acc ∙ less P N m (readFormula (P .head .p) (P .head .letters) formulaLimits text) computed budget h
 
--- A short form's answer, with room and without.
-pub with-room : (N : Poly) (m room : ℕ) → length (writeFormula N) ≤ room
-    → shortAnswer room (shortForm N m) ≡ record { number = 0; place = 0; steps = m; written = length (writeFormula N) }
-unfolding shortAnswer
-with-room N m room l = rw (shortAnswer, le-ltb room (length (writeFormula N)) l)
-
-pub without-room : (N : Poly) (m room : ℕ) → room < length (writeFormula N) → shortAnswer room (shortForm N m) ≡ refusedShort 19 (length (writeFormula N))
-unfolding shortAnswer
-without-room N m room l = rw (shortAnswer, lt-ltb room (length (writeFormula N)) l)
-
 -- A row of a short form, from the computation with just as many steps as the budget.
 pub shortens : {bytes : List ℕ} {P : Package} → acceptance bytes ≡ read P
     → {text : List ℕ} {N : Poly} {m : ℕ} → packageReduced text m (read P) ≡ shortForm N m
@@ -80,12 +68,12 @@ pub shortens : {bytes : List ℕ} {P : Package} → acceptance bytes ≡ read P
 unfolding shortenedAs shortenedInto shortAnswer shortOutput
 shortens {bytes} {P} acc {text} {N} {m} computed e = rw (← e) (record {
   enough = λ budget out h l. let r = reduced-more bytes P acc text N m computed budget h in (
-    ap (shortAnswer (length out)) r ∙ with-room N m (length out) l,
+    ap (shortAnswer (length out)) r ∙ short-room N m (length out) l,
     ap (shortOutput out) r ∙ fitted-start (writeFormula N) out l,
   );
   fewer = λ budget out h. let r = reduced-less bytes P acc text N m computed budget h in (ap (shortAnswer (length out)) r, ap (shortOutput out) r);
   narrow = λ budget out h l. let r = reduced-more bytes P acc text N m computed budget h in (
-    ap (shortAnswer (length out)) r ∙ without-room N m (length out) l,
+    ap (shortAnswer (length out)) r ∙ short-no-room N m (length out) l,
     ap (shortOutput out) r ∙ no-room-kept (writeFormula N) out l,
   );
 })
@@ -99,7 +87,7 @@ is-member {bytes} {P} acc {text} {m} computed = record {
   fewer = λ budget h. ap memberAnswer (reduced-less bytes P acc text [] m computed budget h);
 }
 
--- A row of a refusedShort: of the formula or of the budget, whatever the room; or of the room.
+-- A row of a refusal: of the formula or of the budget, whatever the room; or of the room.
 pub refuses : {bytes : List ℕ} {P : Package} → acceptance bytes ≡ read P
     → {text : List ℕ} {budget n k : ℕ} → packageReduced text budget (read P) ≡ refusedBy n k → {room : ℕ} → Refuses bytes text budget room n k
 unfolding shortenedAs shortenedInto shortAnswer shortOutput reduction
@@ -112,7 +100,7 @@ pub lacks-room : {bytes : List ℕ} {P : Package} → acceptance bytes ≡ read 
 unfolding shortenedAs shortenedInto shortAnswer shortOutput reduction
 lacks-room acc {text} {budget} {m} {N} computed {room} e h = rw (← e) (record {
   kept = λ out l. let r = ap (packageReduced text budget) acc ∙ computed in (
-    ap (shortAnswer room) r ∙ without-room N m room (omega arith),
+    ap (shortAnswer room) r ∙ short-no-room N m room (omega arith),
     ap (shortOutput out) r ∙ no-room-kept (writeFormula N) out (omega arith),
   );
 })

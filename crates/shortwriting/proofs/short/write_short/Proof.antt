@@ -5,7 +5,8 @@ use native.Mathlib.Omega.{arith}
 use lib.ListN.{length}
 use Rattle.working.specs.Working.{formula}
 use Rattle.package.specs.Writing.{writeFormula}
-use Rattle.services.proofs.Room.{no-room-kept, room-written, refusedShort, short-no-room, short-room}
+use Rattle.services.specs.Demands.{refusedShort}
+use Rattle.services.proofs.Room.{no-room-kept, room-written, short-no-room, short-room}
 use borrow.Author.Needs.{needs}
 use Rattle.shortwriting.proofs.short.write_short.Statement.{statement}
 use Rattle.shortwriting.proofs.short.write_short.Tie as tie
