@@ -32,7 +32,3 @@ class Edits(unittest.TestCase):
                         self.assertEqual(read(f"crates/{crate}/{path}").count(old), 1, "not once in %s: %s" % (path, old))
                     count += 1
         self.assertGreaterEqual(count, 100)
-
-
-if __name__ == "__main__":
-    unittest.main()
