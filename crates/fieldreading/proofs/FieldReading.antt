@@ -16,13 +16,13 @@ use Rattle.text.specs.Number.{number, writeNumber}
 use Rattle.text.specs.Pieces.{Pieces, final, piece, pieces, joined, stop, part}
 use Rattle.text.specs.Word.{WordField, noWord, word, wordOf, writeWord}
 use Rattle.text.specs.declared.Num.{Num}
-use Rattle.text.specs.declared.Num.the-variants.{Wrong, Value}
+use Rattle.text.specs.declared.Num.the-variants.{Value}
 use Rattle.text.specs.declared.NumAt.{NumAt}
-use Rattle.text.specs.declared.NumAt.the-variants.{Unread, Read}
+use Rattle.text.specs.declared.NumAt.the-variants.{Read}
 use Rattle.text.specs.declared.WordAt.{WordAt}
-use Rattle.text.specs.declared.WordAt.the-variants.{NoWordAt, Spans}
+use Rattle.text.specs.declared.WordAt.the-variants.{Spans}
 use Rattle.text.specs.declared.WordLen.{WordLen}
-use Rattle.text.specs.declared.WordLen.the-variants.{NoWord, Letters}
+use Rattle.text.specs.declared.WordLen.the-variants.{Letters}
 
 -- A number with another field behind it.
 module _ (form : List ℕ → Num) (l : List ℕ) (at e : ℕ) (h : e ≡ at + stop 32 (drop at l)) where
@@ -69,7 +69,7 @@ number-of-last f = go (number f) (pieces 32 f) refl refl
   where
     go : (n : Num) (ps : Pieces) → number f ≡ n → pieces 32 f ≡ ps → n ≡ numLast ps
     go n (final g) a b = sym a ∙ ap number (final-all f g b)
-    go Wrong (piece g ps) a b = refl
+    go Num.Misshapen (piece g ps) a b = refl
     go (Value v) (piece g ps) a b = absurd (let q = number-one-field f v a in let y : _≡_ {A = ℕ} 0 1 = cc in omega arith)
 
 -- A word with another piece behind it: pieces are ended by the byte b.
@@ -84,7 +84,7 @@ module _ (b : ℕ) (l : List ℕ) (at e : ℕ) (h : e ≡ at + stop b (drop at l
   word-some w k q = rw (cut-more b l at e h k, q)
 
 module _ (l : List ℕ) (at : ℕ) (r : WordAt) (x : GotWord) where
-  pub seen-none-word : r ≡ NoWordAt → seenWordAt l at r ≡ x → x ≡ noneWord
+  pub seen-none-word : r ≡ WordAt.Misshapen → seenWordAt l at r ≡ x → x ≡ noneWord
   unfolding seenWordAt
   seen-none-word q h = sym h ∙ rw q
 
@@ -102,7 +102,7 @@ span-le r at n e m q h = rw q at h
 
 -- What an answer says of what was read.
 module _ (l : List ℕ) (r : NumAt) (x : Got) where
-  pub seen-none : r ≡ Unread → seenNum l r ≡ x → x ≡ none
+  pub seen-none : r ≡ NumAt.Misshapen → seenNum l r ≡ x → x ≡ none
   unfolding seenNum
   seen-none q h = sym h ∙ rw q
 
@@ -115,7 +115,7 @@ unfolding nextNum
 next-le r v e n q h = rw q at h
 
 module _ (f : List ℕ) (r : WordLen) (x : WordField) where
-  pub seen-no-word : r ≡ NoWord → seenWord f r ≡ x → x ≡ noWord
+  pub seen-no-word : r ≡ WordLen.Misshapen → seenWord f r ≡ x → x ≡ noWord
   unfolding seenWord
   seen-no-word q h = sym h ∙ rw q
 

@@ -16,7 +16,7 @@ use Rattle.text.proofs.Cutting.{stop-here, stop-later, stop-end, stop-le, piece
 use Rattle.text.specs.Field.{none, some, gotOf, numThen}
 use Rattle.text.specs.Pieces.{pieces, stop}
 use Rattle.text.specs.declared.Num.{Num}
-use Rattle.text.specs.declared.Num.the-variants.{Wrong, Value}
+use Rattle.text.specs.declared.Num.the-variants.{Misshapen, Value}
 use Rattle.fieldreading.proofs.FieldReading.{num-end, num-value}
 
 -- The bytes before the first byte b.
@@ -60,7 +60,7 @@ pub space-inside : (l : List ℕ) (i : ℕ) → getD l i 0 ≡ 32 → i < length
 space-inside l i e = byte-inside 32 l i (omega arith) e
 
 -- A first field that says no number.
-pub num-none : (form : List ℕ → Num) (s : List ℕ) → form (front 32 s) ≡ Wrong → none ≡ numThen form (pieces 32 s)
+pub num-none : (form : List ℕ → Num) (s : List ℕ) → form (front 32 s) ≡ Misshapen → none ≡ numThen form (pieces 32 s)
 unfolding numThen gotOf
 num-none form s w = elim (decLt (stop 32 s) (length s)) [ yes k ↦ rw (pieces-cut 32 s k, w) | no k ↦ rw (pieces-end 32 s (omega arith)) ]
 
@@ -91,10 +91,10 @@ module _ (l : List ℕ) (at : ℕ) (k : at < length l) (n : getD l at 0 ≡ 32 �
       let d : at + 1 + 1 ≡ at + 2 = omega arith in
       rw d at (num-value form l at (at + 1) (stop-one 32 (omega arith) l at k n e) v (space-inside l (at + 1) e) (rw (m, front-one 32 (omega arith) l at k n e) w))
 
-  pub num-one-wrong : getD l (at + 1) 0 ≡ 32 → form (getD l at 0 ∷ []) ≡ Wrong → none ≡ numThen form (pieces 32 (drop at l))
+  pub num-one-wrong : getD l (at + 1) 0 ≡ 32 → form (getD l at 0 ∷ []) ≡ Misshapen → none ≡ numThen form (pieces 32 (drop at l))
   num-one-wrong e w = num-none form (drop at l) (rw (front-one 32 (omega arith) l at k n e) w)
 
-  pub num-more : (getD l (at + 1) 0 ≡ 32 → ⊥) → ((f : List ℕ) → 2 ≤ length f → getD f 0 0 ≡ getD l at 0 → form f ≡ Wrong)
+  pub num-more : (getD l (at + 1) 0 ≡ 32 → ⊥) → ((f : List ℕ) → 2 ≤ length f → getD f 0 0 ≡ getD l at 0 → form f ≡ Misshapen)
       → none ≡ numThen form (pieces 32 (drop at l))
   num-more e w =
       ⊎-elim (λ a. num-end form l at (at + 1) (a .1) (a .0)) (λ a. num-none form (drop at l) (w (front 32 (drop at l)) (a .0) (a .1))) (front-more 32 (omega arith) l at k n e)

@@ -24,7 +24,7 @@ fn rank_of(kinds: &[u8], b: u8) -> Num
         n += 1;
         i += 1;
     }
-    Num::Wrong
+    Num::Misshapen
 }
 
 // The rank of the kind in the field that starts at the place at, another field behind it: one byte, and a space.
@@ -35,17 +35,17 @@ pub fn inner_rank(kinds: &[u8], l: &[u8], at: usize) -> NumAt
     ensures { λ r. ⌜ nextNum r ≤ length (now (l .entry)) ⌝ }
 {
     if l.len() <= at {
-        return NumAt::Unread;
+        return NumAt::Misshapen;
     }
     if l[at] == b' ' {
-        return NumAt::Unread;
+        return NumAt::Misshapen;
     }
     if !is_space_at(l, at + 1) {
-        return NumAt::Unread;
+        return NumAt::Misshapen;
     }
     let n = rank_of(kinds, l[at]);
     match n {
-        Num::Wrong => NumAt::Unread,
+        Num::Misshapen => NumAt::Misshapen,
         Num::Value(v) => NumAt::Read {
             value: v,
             next: at + 2,

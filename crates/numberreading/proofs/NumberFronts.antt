@@ -13,7 +13,7 @@ use Rattle.text.specs.Bytes.{within}
 use Rattle.text.specs.Field.{none, some, numThen}
 use Rattle.text.specs.Number.{digits, number}
 use Rattle.text.specs.Pieces.{pieces, stop}
-use Rattle.text.specs.declared.Num.the-variants.{Wrong, Value}
+use Rattle.text.specs.declared.Num.the-variants.{Misshapen, Value}
 use Rattle.fieldreading.proofs.FieldReading.{num-end, num-value}
 use Rattle.fieldreading.proofs.Fronts.{front, front-here, front-later, length-front, front-not-first, num-none, num-one, num-more}
 
@@ -23,15 +23,15 @@ module _ (f : List ℕ) (z : getD f 0 0 ≡ 48 → ⊥) where
   unfolding number
   number-some n a b e = rw (number, within-in 1 5 (length f) a b, ne-eqb (getD f 0 0) 48 z, e)
 
-  number-not : digits 0 f ≡ Wrong → number f ≡ Wrong
+  number-not : digits 0 f ≡ Misshapen → number f ≡ Misshapen
   unfolding number
   number-not e = go (within 1 5 (length f)) refl
     where
-      go : (t : Bool) → within 1 5 (length f) ≡ t → number f ≡ Wrong
+      go : (t : Bool) → within 1 5 (length f) ≡ t → number f ≡ Misshapen
       go true q = rw (number, q, ne-eqb (getD f 0 0) 48 z, e)
       go false q = rw (number, q)
 
-number-long : (f : List ℕ) → 6 ≤ length f → number f ≡ Wrong
+number-long : (f : List ℕ) → 6 ≤ length f → number f ≡ Misshapen
 unfolding number
 number-long f h = rw (number, within-high 1 5 (length f) (omega arith) (omega arith))
 
@@ -76,7 +76,7 @@ module _ (l : List ℕ) (at i n : ℕ) (h : i + stop 32 (drop i l) ≡ at + stop
     unfolding digits
     digits-broken s w =
         let x : within 48 57 (getD l i 0) ≡ false = rw e at w in
-        let v : digits 0 (front 32 (drop at l)) ≡ Wrong = sym q ∙ rw (front-later 32 l i k (λ y. s (e ∙ y)), digits, x) in
+        let v : digits 0 (front 32 (drop at l)) ≡ Misshapen = sym q ∙ rw (front-later 32 l i k (λ y. s (e ∙ y)), digits, x) in
         num-none number (drop at l) (number-not (front 32 (drop at l)) no-zero v)
 
     -- Five digits, and no space behind them.
@@ -99,11 +99,11 @@ number-zero : (x : ℕ) → x ≡ 48 → number (x ∷ []) ≡ Value 0
 unfolding number within
 number-zero x e = rw e
 
-leading-zero : (f : List ℕ) → 2 ≤ length f → getD f 0 0 ≡ 48 → number f ≡ Wrong
+leading-zero : (f : List ℕ) → 2 ≤ length f → getD f 0 0 ≡ 48 → number f ≡ Misshapen
 unfolding number
 leading-zero f h e = go (within 1 5 (length f)) refl
   where
-    go : (t : Bool) → within 1 5 (length f) ≡ t → number f ≡ Wrong
+    go : (t : Bool) → within 1 5 (length f) ≡ t → number f ≡ Misshapen
     go true q = rw (number, q, eq-eqb (getD f 0 0) 48 e, ne-eqb (length f) 1 (λ y. omega arith))
     go false q = rw (number, q)
 

@@ -23,10 +23,10 @@ fn read_digits(f: &[u8]) -> Num
     while i < f.len() {
         let d = wide(f[i]);
         if d < 48 {
-            return Num::Wrong;
+            return Num::Misshapen;
         }
         if 57 < d {
-            return Num::Wrong;
+            return Num::Misshapen;
         }
         n = n * 10 + (d - 48);
         i += 1;
@@ -39,16 +39,16 @@ pub fn read_number(f: &[u8]) -> Num
     ensures { λ r. ⌜ r ≡ number (now (f .entry)) ⌝ }
 {
     if f.len() < 1 {
-        return Num::Wrong;
+        return Num::Misshapen;
     }
     if 5 < f.len() {
-        return Num::Wrong;
+        return Num::Misshapen;
     }
     if f[0] == 48 {
         if f.len() == 1 {
             return Num::Value(0);
         }
-        return Num::Wrong;
+        return Num::Misshapen;
     }
     read_digits(f)
 }
@@ -66,7 +66,7 @@ fn inner_digits(l: &[u8], at: usize) -> NumAt
         let d = wide(l[i]);
         if d == 32 {
             if i == at {
-                return NumAt::Unread;
+                return NumAt::Misshapen;
             }
             return NumAt::Read {
                 value: n,
@@ -74,18 +74,18 @@ fn inner_digits(l: &[u8], at: usize) -> NumAt
             };
         }
         if d < 48 {
-            return NumAt::Unread;
+            return NumAt::Misshapen;
         }
         if 57 < d {
-            return NumAt::Unread;
+            return NumAt::Misshapen;
         }
         if 5 <= i - at {
-            return NumAt::Unread;
+            return NumAt::Misshapen;
         }
         n = n * 10 + (d - 48);
         i += 1;
     }
-    NumAt::Unread
+    NumAt::Misshapen
 }
 
 // The number in the field that starts at the place at, another field behind it.
@@ -95,7 +95,7 @@ pub fn inner_number(l: &[u8], at: usize) -> NumAt
     ensures { λ r. ⌜ nextNum r ≤ length (now (l .entry)) ⌝ }
 {
     if l.len() <= at {
-        return NumAt::Unread;
+        return NumAt::Misshapen;
     }
     if l[at] != 48 {
         return inner_digits(l, at);
@@ -106,7 +106,7 @@ pub fn inner_number(l: &[u8], at: usize) -> NumAt
             next: at + 2,
         };
     }
-    NumAt::Unread
+    NumAt::Misshapen
 }
 
 // The number in the last field, which starts at the place at: bytes with a space among them say no number.

@@ -13,7 +13,8 @@ use Rattle.text.specs.Bytes.{within}
 use Rattle.text.specs.Field.{none, some, numThen, numLast}
 use Rattle.text.specs.Number.{number}
 use Rattle.text.specs.Pieces.{Pieces}
-use Rattle.text.specs.declared.Num.the-variants.{Wrong, Value}
+use Rattle.text.specs.declared.Num.{Num}
+use Rattle.text.specs.declared.Num.the-variants.{Value}
 
 -- The four fields.
 module _ (ps : Pieces) where
@@ -32,7 +33,7 @@ module _ (ps : Pieces) where
       head-gens c = rw (headForm, a, b, c)
 
       module _ (g : ℕ) (ps₃ : Pieces) (c : numThen number ps₂ ≡ some g ps₃) where
-        pub head-basis : numLast ps₃ ≡ Wrong → noHead ≡ headForm ps
+        pub head-basis : numLast ps₃ ≡ Num.Misshapen → noHead ≡ headForm ps
         unfolding headForm
         head-basis d = rw (headForm, a, b, c, d)
 

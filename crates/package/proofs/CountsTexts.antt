@@ -13,7 +13,7 @@ use Rattle.text.specs.Field.{Got, none, some, numThen, numLast}
 use Rattle.text.specs.Number.{number, writeNumber}
 use Rattle.text.specs.Pieces.{Pieces, piece, fields, writeFields, Without, Clear, clear, clears}
 use Rattle.text.specs.declared.Num.{Num}
-use Rattle.text.specs.declared.Num.the-variants.{Wrong, Value}
+use Rattle.text.specs.declared.Num.the-variants.{Misshapen, Value}
 
 module _ (ps : Pieces) (h : Head) (e : headForm ps ≡ head h) where
   clash : noHead ≡ headForm ps → ⊥
@@ -23,7 +23,7 @@ module _ (ps : Pieces) (h : Head) (e : headForm ps ≡ head h) where
     module _ (l : ℕ) (ps₂ : Pieces) (b : numThen number ps₁ ≡ some l ps₂) where
       by-basis : (g : ℕ) (ps₃ : Pieces) → numThen number ps₂ ≡ some g ps₃ → (x : Num) → numLast ps₃ ≡ x → ps ≡ headFields h
       unfolding headFields
-      by-basis g ps₃ c Wrong d = absurd (clash (head-basis ps p ps₁ a l ps₂ b g ps₃ c d))
+      by-basis g ps₃ c Misshapen d = absurd (clash (head-basis ps p ps₁ a l ps₂ b g ps₃ c d))
       by-basis g ps₃ c (Value n) d =
           let z : head (record { p = p; letters = l; gens = g; basis = n }) ≡ head h = head-whole ps p ps₁ a l ps₂ b g ps₃ c n d ∙ e in
           let q : record { p = p; letters = l; gens = g; basis = n } ≡ h = cc in

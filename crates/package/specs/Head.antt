@@ -8,7 +8,7 @@ use Rattle.text.specs.Bytes.{within}
 use Rattle.text.specs.Field.{none, some, numThen, numLast}
 use Rattle.text.specs.Number.{number}
 use Rattle.text.specs.Pieces.{Pieces}
-use Rattle.text.specs.declared.Num.the-variants.{Wrong, Value}
+use Rattle.text.specs.declared.Num.the-variants.{Misshapen, Value}
 
 -- What a line says as the value line of block 1.
 pub data HeadForm : Type 0 where
@@ -24,7 +24,7 @@ headForm ps = elim (numThen number ps) [
     | none ↦ noHead
     | some l ps₂ ↦ elim (numThen number ps₂) [
       | none ↦ noHead
-      | some g ps₃ ↦ elim (numLast ps₃) [ Wrong ↦ noHead | Value b ↦ head (record { p = p; letters = l; gens = g; basis = b }) ]
+      | some g ps₃ ↦ elim (numLast ps₃) [ Misshapen ↦ noHead | Value b ↦ head (record { p = p; letters = l; gens = g; basis = b }) ]
     ]
   ]
 ]

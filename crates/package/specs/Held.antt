@@ -31,7 +31,7 @@ use Rattle.text.specs.Field.{GotWord, noneWord, someWord}
 use Rattle.text.specs.Pieces.{Pieces, final, piece, pieces, lines, fields, part}
 use Rattle.text.specs.Word.{word}
 use Rattle.text.specs.declared.WordAt.{WordAt}
-use Rattle.text.specs.declared.WordAt.the-variants.{NoWordAt, Spans}
+use Rattle.text.specs.declared.WordAt.the-variants.{Spans}
 
 -- Line n of the text s as a names line.
 unfoldable pub seenNames : List ℕ → ℕ → NamesRead → Answer Pieces
@@ -128,7 +128,7 @@ slotsHeld h ks is (suc n) = slotsHeld h ks is n ++ (slot h (getD ks n 0) (getD i
 -- A word read in the text s from the place at on, with the lines behind it.
 unfoldable pub seenLineWord : List ℕ → ℕ → WordAt → GotWord
 unfolding pieces
-seenLineWord s at NoWordAt = noneWord
+seenLineWord s at WordAt.Misshapen = noneWord
 seenLineWord s at (Spans n e) = someWord (part s at n) (lines (drop e s))
 
 -- A sum line and the lines behind it.

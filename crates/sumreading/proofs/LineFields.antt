@@ -22,9 +22,9 @@ use Rattle.text.specs.Number.{number, writeNumber}
 use Rattle.text.specs.Pieces.{Pieces, final, piece, onto, pieces, lines, fields, joined, part, Without, empty, apart, Clear, clears}
 use Rattle.text.specs.Word.{WordField, noWord, word, wordOf, writeWord}
 use Rattle.text.specs.declared.Num.{Num}
-use Rattle.text.specs.declared.Num.the-variants.{Wrong, Value}
+use Rattle.text.specs.declared.Num.the-variants.{Value}
 use Rattle.text.specs.declared.WordAt.{WordAt}
-use Rattle.text.specs.declared.WordAt.the-variants.{NoWordAt, Spans}
+use Rattle.text.specs.declared.WordAt.the-variants.{Spans}
 
 -- The first line, ended or not, and the bytes behind it.
 unfoldable pub first : Pieces → List ℕ
@@ -124,7 +124,7 @@ unfolding numThen gotOf
 num-refused form t a = go (fields (first (lines t))) refl
   where
     none-of : (n : Num) (ps qs : Pieces) → gotOf n ps ≡ none → gotOf n qs ≡ none
-    none-of Wrong ps qs h = refl
+    none-of Num.Misshapen ps qs h = refl
     none-of (Value v) ps qs h = absurd (let y : _≡_ {A = ℕ} 0 1 = cc in omega arith)
 
     go : (ps : Pieces) → fields (first (lines t)) ≡ ps → numThen form (fields (first (lines t))) ≡ none
@@ -246,7 +246,7 @@ sum-seen s k i c a m o b n e x h = h
 
 -- What an answer says of the last word.
 module _ (s : List ℕ) (at : ℕ) (r : WordAt) (x : GotWord) where
-  pub seen-no-last : r ≡ NoWordAt → seenLineWord s at r ≡ x → x ≡ noneWord
+  pub seen-no-last : r ≡ WordAt.Misshapen → seenLineWord s at r ≡ x → x ≡ noneWord
   unfolding seenLineWord
   seen-no-last q h = sym h ∙ rw q
 

@@ -34,10 +34,10 @@ fn line_letters(s: &[u8], at: usize) -> WordAt
         let b = wide(s[i]);
         if b < 97 {
             if b != 10 {
-                return WordAt::NoWordAt;
+                return WordAt::Misshapen;
             }
             if i == at {
-                return WordAt::NoWordAt;
+                return WordAt::Misshapen;
             }
             return WordAt::Spans {
                 len: i - at,
@@ -45,11 +45,11 @@ fn line_letters(s: &[u8], at: usize) -> WordAt
             };
         }
         if 122 < b {
-            return WordAt::NoWordAt;
+            return WordAt::Misshapen;
         }
         i += 1;
     }
-    WordAt::NoWordAt
+    WordAt::Misshapen
 }
 
 // The word from the place at on, which a newline ends, and the place behind the newline.
@@ -60,7 +60,7 @@ pub fn line_word(s: &[u8], at: usize) -> WordAt
     ensures { λ r. ⌜ at + spanWord r ≤ length (now (s .entry)) ⌝ }
 {
     if s.len() <= at {
-        return WordAt::NoWordAt;
+        return WordAt::Misshapen;
     }
     if s[at] != 45 {
         return line_letters(s, at);
@@ -71,5 +71,5 @@ pub fn line_word(s: &[u8], at: usize) -> WordAt
             next: at + 2,
         };
     }
-    WordAt::NoWordAt
+    WordAt::Misshapen
 }

@@ -12,7 +12,7 @@ use borrow.Author.Tests.{lt-ltb, le-ltb, eq-eqb, ne-eqb, ltb-false, eqb-true}
 use Rattle.text.specs.Bytes.{within, allWithin}
 use Rattle.lists.specs.Same.{same}
 use Rattle.text.specs.Field.{rankFrom, rank}
-use Rattle.text.specs.declared.Num.the-variants.{Wrong, Value}
+use Rattle.text.specs.declared.Num.the-variants.{Misshapen, Value}
 
 -- Two lists hold the same bytes.
 module _ (a b : List ℕ) (i : ℕ) where
@@ -96,7 +96,7 @@ module _ (ks : List ℕ) (b i : ℕ) where
   unfolding rankFrom
   rank-later n h d = rw (drop-cons ks i 0, rankFrom, ne-eqb (getD ks i 0) b d, add-one i, add-one n)
 
-  pub rank-none : (n : ℕ) → length ks ≤ i → rankFrom n (drop i ks) b ≡ Wrong
+  pub rank-none : (n : ℕ) → length ks ≤ i → rankFrom n (drop i ks) b ≡ Misshapen
   unfolding rankFrom
   rank-none n h = rw drop-of-length-le
 
@@ -104,7 +104,7 @@ pub rank-one : (ks f : List ℕ) → length f ≡ 1 → rank ks f ≡ rankFrom 1
 unfolding rank
 rank-one ks f e = rw (rank, eq-eqb (length f) 1 e)
 
-pub rank-many : (ks f : List ℕ) → (length f ≡ 1 → ⊥) → rank ks f ≡ Wrong
+pub rank-many : (ks f : List ℕ) → (length f ≡ 1 → ⊥) → rank ks f ≡ Misshapen
 unfolding rank
 rank-many ks f n = rw (rank, ne-eqb (length f) 1 n)
 

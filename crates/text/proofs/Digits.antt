@@ -10,7 +10,7 @@ use lib.Seq.{drop-cons}
 use Rattle.text.proofs.Bytewise.{within-in}
 use Rattle.text.specs.Bytes.{within}
 use Rattle.text.specs.Number.{digits}
-use Rattle.text.specs.declared.Num.the-variants.{Wrong, Value}
+use Rattle.text.specs.declared.Num.the-variants.{Misshapen, Value}
 
 unfoldable pub pow : ℕ → ℕ
 pow zero = 1
@@ -35,7 +35,7 @@ module _ (acc : ℕ) (f : List ℕ) (i : ℕ) where
   unfolding digits
   digits-here d h e lo hi = rw (e, drop-cons f i 0, digits, within-in 48 57 (getD f i 0) (omega arith) (omega arith), add-one i)
 
-  pub digits-not : (d : ℕ) → i < length f → d ≡ getD f i 0 → within 48 57 d ≡ false → digits acc (drop i f) ≡ Wrong
+  pub digits-not : (d : ℕ) → i < length f → d ≡ getD f i 0 → within 48 57 d ≡ false → digits acc (drop i f) ≡ Misshapen
   unfolding digits
   digits-not d h e w = let v : within 48 57 (getD f i 0) ≡ false = rw e at w in rw (drop-cons f i 0, digits, v)
 

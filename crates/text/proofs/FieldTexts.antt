@@ -19,7 +19,7 @@ use Rattle.text.specs.Number.{number, writeNumber}
 use Rattle.text.specs.Pieces.{Pieces, final, piece, Without, empty, apart}
 use Rattle.text.specs.Word.{WordField, noWord, word, wordOf, writeWord}
 use Rattle.text.specs.declared.Num.{Num}
-use Rattle.text.specs.declared.Num.the-variants.{Wrong, Value}
+use Rattle.text.specs.declared.Num.the-variants.{Misshapen, Value}
 
 -- A number with another field behind it, and as the last field.
 pub starts-number : (v : ℕ) (qs : Pieces) → v < 100000 → numThen number (piece (writeNumber v) qs) ≡ some v qs
@@ -32,7 +32,7 @@ number-starts (final f) v qs e = absurd (let y : _≡_ {A = ℕ} 0 1 = cc in ome
 number-starts (piece f ps) v qs e = go (number f) refl e
   where
     go : (n : Num) → number f ≡ n → gotOf n ps ≡ some v qs → (piece f ps ≡ piece (writeNumber v) qs) × (v < 100000)
-    go Wrong q h = absurd (let y : _≡_ {A = ℕ} 0 1 = cc in omega arith)
+    go Misshapen q h = absurd (let y : _≡_ {A = ℕ} 0 1 = cc in omega arith)
     go (Value u) q h =
         let a : u ≡ v = cc in
         let b : ps ≡ qs = cc in
@@ -101,7 +101,7 @@ kind-starts ks (piece [] ps) k qs e = absurd (let y : _≡_ {A = ℕ} 0 1 = cc i
 kind-starts ks (piece (b ∷ []) ps) k qs e = go (rankFrom 1 ks b) refl e
   where
     go : (n : Num) → rankFrom 1 ks b ≡ n → gotOf n ps ≡ some k qs → (piece (b ∷ []) ps ≡ piece (writeKind ks k) qs) × (within 1 (length ks) k ≡ true)
-    go Wrong q h = absurd (let y : _≡_ {A = ℕ} 0 1 = cc in omega arith)
+    go Misshapen q h = absurd (let y : _≡_ {A = ℕ} 0 1 = cc in omega arith)
     go (Value u) q h =
         let a : u ≡ k = cc in
         let c : ps ≡ qs = cc in

@@ -15,7 +15,7 @@ use Rattle.text.proofs.Digits.{pow, pow-five, pow-more}
 use Rattle.text.specs.Bytes.{within}
 use Rattle.text.specs.Number.{digits, number, decimal, writeNumber}
 use Rattle.text.specs.declared.Num.{Num}
-use Rattle.text.specs.declared.Num.the-variants.{Wrong, Value}
+use Rattle.text.specs.declared.Num.the-variants.{Misshapen, Value}
 
 -- One digit more behind digits that say m.
 digits-snoc : (acc m d : ℕ) (xs : List ℕ) → 48 ≤ d → d ≤ 57 → digits acc xs ≡ Value m → digits acc (xs ++ (d ∷ [])) ≡ Value (m * 10 + (d - 48))
@@ -28,7 +28,7 @@ digits-snoc acc m d (x ∷ xs) lo hi h = go (within 48 57 x) refl (digits-snoc (
     go : (t : Bool) → within 48 57 x ≡ t → (digits (acc * 10 + (x - 48)) xs ≡ Value m → digits (acc * 10 + (x - 48)) (xs ++ (d ∷ [])) ≡ Value (m * 10 + (d - 48)))
         → digits acc ((x ∷ xs) ++ (d ∷ [])) ≡ Value (m * 10 + (d - 48))
     go true e ih = rw (digits, e) (ih (rw (digits, e) at h))
-    go false e ih = absurd (let q : Wrong ≡ Value m = rw (digits, e) at h in let y : _≡_ {A = ℕ} 0 1 = cc in omega arith)
+    go false e ih = absurd (let q : Misshapen ≡ Value m = rw (digits, e) at h in let y : _≡_ {A = ℕ} 0 1 = cc in omega arith)
 
 -- The digits of a number say it.
 one-digit : (n : ℕ) → n < 10 → digits 0 (writeNumber n) ≡ Value n
@@ -103,7 +103,7 @@ digits-are-written acc n (d ∷ ds) h e = go (within 48 57 d) refl (digits-are-w
         (λ (x : ℕ). writeNumber acc ++ (x ∷ [])) q in
         let i : digits (acc * 10 + (d - 48)) ds ≡ Value n = rw (digits, t) at e in
         sym (append-assoc (writeNumber acc) (d ∷ []) ds) ∙ (rw w at (ih i))
-    go false t ih = absurd (let q : Wrong ≡ Value n = rw (digits, t) at e in let y : _≡_ {A = ℕ} 0 1 = cc in omega arith)
+    go false t ih = absurd (let q : Misshapen ≡ Value n = rw (digits, t) at e in let y : _≡_ {A = ℕ} 0 1 = cc in omega arith)
 
 -- A number of i digits read and some more is below a power of ten.
 digits-below : (acc n i : ℕ) (f : List ℕ) → acc < pow i → digits acc f ≡ Value n → n < pow (i + length f)
@@ -117,7 +117,7 @@ digits-below acc n i (d ∷ ds) h e = go (within 48 57 d) refl (digits-below (ac
         let b = within-bounds 48 57 d t in
         let s : i + 1 + length ds ≡ i + suc (length ds) = omega arith in
         rw s at (ih (pow-more i acc (d - 48) h (omega arith)) (rw (digits, t) at e))
-    go false t ih = absurd (let q : Wrong ≡ Value n = rw (digits, t) at e in let y : _≡_ {A = ℕ} 0 1 = cc in omega arith)
+    go false t ih = absurd (let q : Misshapen ≡ Value n = rw (digits, t) at e in let y : _≡_ {A = ℕ} 0 1 = cc in omega arith)
 
 -- A list of digits that does not begin with `0`.
 no-zero-written : (f : List ℕ) (n : ℕ) → 1 ≤ length f → (getD f 0 0 ≡ 48 → ⊥) → digits 0 f ≡ Value n → f ≡ writeNumber n
@@ -134,7 +134,7 @@ no-zero-written (d ∷ ds) n h z e = go (within 48 57 d) refl
         let m : d - 48 ≡ 0 * 10 + (d - 48) = omega arith in
         let i : digits (d - 48) ds ≡ Value n = ap (λ (x : ℕ). digits x ds) m ∙ (rw (digits, t) at e) in
         rw w at (digits-are-written (d - 48) n ds (omega arith) i)
-    go false t = absurd (let q : Wrong ≡ Value n = rw (digits, t) at e in let y : _≡_ {A = ℕ} 0 1 = cc in omega arith)
+    go false t = absurd (let q : Misshapen ≡ Value n = rw (digits, t) at e in let y : _≡_ {A = ℕ} 0 1 = cc in omega arith)
 
 only-zero : (f : List ℕ) → length f ≡ 1 → getD f 0 0 ≡ 48 → f ≡ 48 ∷ []
 only-zero [] h e = absurd (omega arith)
@@ -147,7 +147,7 @@ unfolding number writeNumber decimal pow
 number-is-written f n h = go (within 1 5 (length f)) (eqb (getD f 0 0) 48) (eqb (length f) 1) refl refl refl h
   where
     go : (t u v : Bool) → within 1 5 (length f) ≡ t → eqb (getD f 0 0) 48 ≡ u → eqb (length f) 1 ≡ v
-        → _≡_ {A = Num} (elim t [ false ↦ Wrong | true ↦ elim u [ true ↦ elim v [ true ↦ Value 0 | false ↦ Wrong ] | false ↦ digits 0 f ] ]) (Value n)
+        → _≡_ {A = Num} (elim t [ false ↦ Misshapen | true ↦ elim u [ true ↦ elim v [ true ↦ Value 0 | false ↦ Misshapen ] | false ↦ digits 0 f ] ]) (Value n)
         → (f ≡ writeNumber n) × (n < 100000)
     go false u v a b c e = absurd (let y : _≡_ {A = ℕ} 0 1 = cc in omega arith)
     go true true false a b c e = absurd (let y : _≡_ {A = ℕ} 0 1 = cc in omega arith)

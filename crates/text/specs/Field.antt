@@ -8,7 +8,7 @@ use Rattle.text.specs.Number.{number}
 use Rattle.text.specs.Pieces.{Pieces, final, piece}
 use Rattle.text.specs.Word.{WordField, noWord, word, wordOf}
 use Rattle.text.specs.declared.Num.{Num}
-use Rattle.text.specs.declared.Num.the-variants.{Wrong, Value}
+use Rattle.text.specs.declared.Num.the-variants.{Misshapen, Value}
 
 -- A number and the fields behind it.
 pub data Got : Type 0 where
@@ -16,7 +16,7 @@ pub data Got : Type 0 where
   some : ℕ → Pieces → Got
 
 unfoldable pub gotOf : Num → Pieces → Got
-gotOf Wrong ps = none
+gotOf Misshapen ps = none
 gotOf (Value v) ps = some v ps
 
 -- A field that is not the last, and says a number by `form`.
@@ -29,7 +29,7 @@ numThen form (piece f ps) = gotOf (form f) ps
 unfoldable pub numLast : Pieces → Num
 unfolding number
 numLast (final f) = number f
-numLast (piece f ps) = Wrong
+numLast (piece f ps) = Misshapen
 
 -- A word and the fields behind it.
 pub data GotWord : Type 0 where
@@ -54,13 +54,13 @@ wordLast (piece f ps) = noWord
 
 -- Kinds of one letter each have ranks, in a given order: b's rank among the kinds, the first of which has rank n.
 unfoldable pub rankFrom : ℕ → List ℕ → ℕ → Num
-rankFrom n [] b = Wrong
+rankFrom n [] b = Misshapen
 rankFrom n (k ∷ ks) b = elim (eqb k b) [ true ↦ Value n | false ↦ rankFrom (suc n) ks b ]
 
 -- The rank of a field of one byte among the kinds, counted from 1.
 unfoldable pub rank : List ℕ → List ℕ → Num
 unfolding rankFrom
-rank ks f = elim (eqb (length f) 1) [ true ↦ rankFrom 1 ks (getD f 0 0) | false ↦ Wrong ]
+rank ks f = elim (eqb (length f) 1) [ true ↦ rankFrom 1 ks (getD f 0 0) | false ↦ Misshapen ]
 
 -- A kind as it is written, by its rank.
 unfoldable pub writeKind : List ℕ → ℕ → List ℕ

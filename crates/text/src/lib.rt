@@ -5,24 +5,24 @@ pub mod bytes;
 
 // What a field says as a number: no number, or its value.
 pub enum Num {
-    Wrong,
+    Misshapen,
     Value(u32),
 }
 
 // A number field with another field behind it: its value, and the place where that one starts.
 pub enum NumAt {
-    Unread,
+    Misshapen,
     Read { value: u32, next: usize },
 }
 
 // What a field says as a word: no word, or the number of its letters, which are the field's first bytes.
 pub enum WordLen {
-    NoWord,
+    Misshapen,
     Letters(usize),
 }
 
 // A word field with another field behind it: the number of its letters, and the place where that one starts.
 pub enum WordAt {
-    NoWordAt,
+    Misshapen,
     Spans { len: usize, next: usize },
 }

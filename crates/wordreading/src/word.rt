@@ -30,7 +30,7 @@ pub fn read_word(f: &[u8]) -> WordLen
     ensures { λ r. ⌜ lenWord r ≤ length (now (f .entry)) ⌝ }
 {
     if f.len() == 0 {
-        return WordLen::NoWord;
+        return WordLen::Misshapen;
     }
     if is_dash(f) {
         return WordLen::Letters(0);
@@ -38,7 +38,7 @@ pub fn read_word(f: &[u8]) -> WordLen
     if all_within(97, 122, f) {
         return WordLen::Letters(f.len());
     }
-    WordLen::NoWord
+    WordLen::Misshapen
 }
 
 // The letters of the field that starts at the place at, another field behind it: the first byte is not `-`.
@@ -54,7 +54,7 @@ fn inner_letters(l: &[u8], at: usize) -> WordAt
         let b = wide(l[i]);
         if b == 32 {
             if i == at {
-                return WordAt::NoWordAt;
+                return WordAt::Misshapen;
             }
             return WordAt::Spans {
                 len: i - at,
@@ -62,14 +62,14 @@ fn inner_letters(l: &[u8], at: usize) -> WordAt
             };
         }
         if b < 97 {
-            return WordAt::NoWordAt;
+            return WordAt::Misshapen;
         }
         if 122 < b {
-            return WordAt::NoWordAt;
+            return WordAt::Misshapen;
         }
         i += 1;
     }
-    WordAt::NoWordAt
+    WordAt::Misshapen
 }
 
 // The word in the field that starts at the place at, another field behind it.
@@ -80,7 +80,7 @@ pub fn inner_word(l: &[u8], at: usize) -> WordAt
     ensures { λ r. ⌜ at + spanWord r ≤ length (now (l .entry)) ⌝ }
 {
     if l.len() <= at {
-        return WordAt::NoWordAt;
+        return WordAt::Misshapen;
     }
     if l[at] != 45 {
         return inner_letters(l, at);
@@ -91,7 +91,7 @@ pub fn inner_word(l: &[u8], at: usize) -> WordAt
             next: at + 2,
         };
     }
-    WordAt::NoWordAt
+    WordAt::Misshapen
 }
 
 // The word in the last field, which starts at the place at: bytes with a space among them say no word.
