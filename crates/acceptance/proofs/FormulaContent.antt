@@ -8,7 +8,8 @@ use native.Mathlib.Omega.{arith}
 use lib.Dec.{eqb, ltb}
 use lib.ListN.{length}
 use borrow.Author.Tests.{eqb-true, eq-eqb, ne-eqb, ltb-true, lt-ltb, le-ltb}
-use Rattle.field.specs.Field.{fieldOf, modular}
+use Rattle.field.specs.Field.{fieldOf}
+use Rattle.field.proofs.Fields.{element-of, below-of}
 use Rattle.words.specs.declared.Comparison.the-variants.{Below}
 use Rattle.lists.specs.All.{All, done, _also_}
 use Rattle.words.specs.Word.{Word, Letter}
@@ -65,12 +66,11 @@ module _ (p letters : ℕ) (m : Limits) where
 
   -- terms in order are in written form and in the letters
   pub rows-content : {v : Word} {n : ℕ} (ts : Poly) → RowsInOrder p letters m v n ts → Written (fieldOf p) wordOrder ts × InLetters (Letter letters) ts
-  unfolding fieldOf modular
   rows-content [] noRows = (W.zero, done)
   rows-content {v} {n} (t ∷ ts) (rowThen e os) =
       let b = row-bounds p letters m v n (t .coef) (t .word) e in
       let (w, l) = rows-content ts os in
-      (W.term {t = t} (b .small) (λ z. let q = b .some in omega arith) (rows-below ts os) w, b .over also l)
+      (W.term {t = t} (element-of p (b .small)) (λ z. let q = b .some in omega arith) (rows-below ts os) w, b .over also l)
 
   -- and their coefficients and words are in bounds
   pub rows-bounded : {v : Word} {n : ℕ} (ts : Poly) → RowsInOrder p letters m v n ts → All (λ t. (t .coef < p) × (length (t .word) ≤ m .len)) ts
@@ -104,7 +104,7 @@ module _ (p letters : ℕ) (m : Limits) where
   -- a polynomial in written form and in the letters, within the limits, is in order
   content-rows : (v : Word) (n : ℕ) (ts : Poly) → Written (fieldOf p) wordOrder ts → InLetters (Letter letters) ts → All (λ t. length (t .word) ≤ m .len) ts
       → n + length ts ≤ m .terms → ((n ≡ 0) ⊎ All (λ s. Lt wordOrder (s .word) v) ts) → RowsInOrder p letters m v n ts
-  unfolding fieldOf modular rowFits coefFits wordFits isBelow
+  unfolding rowFits coefFits wordFits isBelow
   content-rows v n [] W.zero done done l q = noRows
   content-rows v n (t ∷ ts) (W.term a b c w) (x also xs) (y also ys) l q =
       rowThen (fits q) (content-rows (t .word) (suc n) ts w xs ys (omega arith) (inr c))
@@ -117,7 +117,7 @@ module _ (p letters : ℕ) (m : Limits) where
           go (suc k) z = omega arith
 
       coef-test : coefFits p (t .coef) ≡ true
-      coef-test = rw (coefFits, lt-ltb 0 (t .coef) some, lt-ltb (t .coef) p a)
+      coef-test = rw (coefFits, lt-ltb 0 (t .coef) some, lt-ltb (t .coef) p (below-of p a))
 
       word-test : wordFits (m .len) letters (t .word) ≡ true
       word-test = rw (wordFits, le-ltb (m .len) (length (t .word)) y) (letters-test letters (t .word) x)

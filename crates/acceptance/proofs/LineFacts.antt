@@ -8,7 +8,6 @@ use native.Mathlib.Omega.{arith}
 use lib.Dec.{eqb, ltb}
 use lib.ListN.{length}
 use borrow.Author.Tests.{eqb-true, ltb-true, ltb-false}
-use Rattle.field.specs.Prime.{isPrime}
 use Rattle.words.specs.declared.Comparison.{Comparison}
 use Rattle.words.specs.declared.Comparison.the-variants.{Below, Equal, Above}
 use Rattle.lists.specs.All.{All, done, _also_}
@@ -18,7 +17,6 @@ use Rattle.text.specs.Bytes.{within, allWithin}
 use Rattle.text.proofs.Bytewise.{within-bounds, all-cons}
 use Rattle.package.specs.declared.Head.{Head}
 use Rattle.package.specs.declared.Limits.{Limits}
-use Rattle.package.specs.Head.{primeFits}
 use Rattle.package.specs.Bounds.{coefFits, wordFits}
 use Rattle.words.specs.Below.{isBelow}
 use Rattle.package.specs.Terms.{itemsOf, termFits, LineAbove, follows}
@@ -36,11 +34,6 @@ neither false c e = (refl, e)
 pub coef-fits : (p c : ℕ) → coefFits p c ≡ true → (0 < c) × (c < p)
 unfolding coefFits
 coef-fits p c e = let (a, b) = both (ltb 0 c) (ltb c p) e in (ltb-true 0 c a, ltb-true c p b)
-
--- p is a prime in bounds
-pub prime-fits : (p : ℕ) → primeFits p ≡ true → (p ≤ 65521) × (isPrime p ≡ true)
-unfolding primeFits
-prime-fits p e = let (a, b) = neither (ltb 65521 p) (isPrime p) e in (ltb-false 65521 p a, b)
 
 letters-within : (n : ℕ) (w : Word) → allWithin 97 (96 + n) w ≡ true → All (Letter n) w
 letters-within n [] e = done

@@ -9,8 +9,8 @@ use native.Mathlib.Omega.{arith}
 use lib.Dec.{eqb, ltb}
 use lib.ListN.{length}
 use borrow.Author.Tests.{eq-eqb, ne-eqb, ltb-false}
-use Rattle.field.specs.Field.{Field, fieldOf, modular}
-use Rattle.field.proofs.Modular.{fieldOf-field}
+use Rattle.field.specs.Field.{Field, fieldOf}
+use Rattle.field.proofs.Fields.{fieldOf-field, element-of}
 use Rattle.lists.specs.All.{All, done, _also_}
 use Rattle.words.specs.Word.{Word, Letter}
 use Rattle.words.specs.Order.{Lt, wordOrder}
@@ -28,9 +28,10 @@ use Rattle.package.specs.Terms.{TermLine, LineAbove}
 use Rattle.package.specs.Sums.{SumLine}
 use Rattle.package.specs.Package.{Package, packageLimits}
 use Rattle.package.specs.Readable.{under, TermInOrder, TermsInOrder, noTerms, termThen, SumInOrder, SumsInOrder, noSums, sumThen, Readable}
+use Rattle.package.proofs.FieldNumbers.{fits-iff, means-prime}
 use Rattle.package.proofs.LineBounds.{head-bounds}
 use Rattle.acceptance.specs.Content.{termsOf, polynomial, polynomials, relations, basis, lineOf}
-use Rattle.acceptance.proofs.LineFacts.{prime-fits, TermBounds, term-bounds, Follows, follows-is, sum-bounds}
+use Rattle.acceptance.proofs.LineFacts.{TermBounds, term-bounds, Follows, follows-is, sum-bounds}
 
 module _ (k i : ℕ) where
   -- a term of the item goes to the polynomial, any other does not
@@ -115,7 +116,7 @@ module _ (k i : ℕ) where
     -- an item's polynomial is in written form, and in the letters
     item-written : {a : LineAbove} {n : ℕ} (ts : List TermLine) → TermsInOrder h m a n ts
         → Written (fieldOf (h .p)) wordOrder (termsOf (itemTerms k i ts)) × InLetters (Letter (h .letters)) (termsOf (itemTerms k i ts))
-    unfolding termsOf itemTerms fieldOf modular
+    unfolding termsOf itemTerms
     item-written [] noTerms = (W.zero, done)
     item-written {a} {n} (t ∷ ts) (termThen o os) = go (is-item t) (item-below ts os) (item-written ts os)
       where
@@ -128,7 +129,7 @@ module _ (k i : ℕ) where
             → Written (fieldOf (h .p)) wordOrder (termsOf (itemTerms k i (t ∷ ts))) × InLetters (Letter (h .letters)) (termsOf (itemTerms k i (t ∷ ts)))
         go (yes e) below (w, l) =
             rw (item-here t ts (e .0) (e .1))
-            (W.term {t = record { coef = t .coef; word = t .word }} (b .small) (λ z. let q = b .some in omega arith) (below (e .0) (e .1)) w, b .letters also l)
+            (W.term {t = record { coef = t .coef; word = t .word }} (element-of (h .p) (b .small)) (λ z. let q = b .some in omega arith) (below (e .0) (e .1)) w, b .letters also l)
         go (no e) below r = rw (item-other t ts e) r
 
     -- and its words are short
@@ -160,9 +161,9 @@ sums-over h m (s ∷ ss) (sumThen o os) =
     (b .left-letters, b .right-letters) also sums-over h m ss os
 
 module _ (P : Package) (r : Readable P) where
-  -- the numbers modulo p are a field
+  -- p means a field
   pub readable-field : Field (fieldOf (P .head .p))
-  readable-field = let (a, b) = prime-fits (P .head .p) (r .prime) in fieldOf-field (P .head .p) (omega arith) b
+  readable-field = fieldOf-field (P .head .p) (means-prime (P .head .p) (fits-iff (P .head .p) .0 (r .field)))
 
   item-both : (k i : ℕ) → Written (fieldOf (P .head .p)) wordOrder (polynomial k i (P .terms)) × InLetters (Letter (P .head .letters)) (polynomial k i (P .terms))
   unfolding polynomial
@@ -192,7 +193,7 @@ module _ (P : Package) (r : Readable P) where
   -- the basis has at most 64 polynomials
   pub basis-few : length (basis P) ≤ 64
   unfolding basis
-  basis-few = rw (polynomials-length termB (P .terms) 1 (P .head .basis)) (head-bounds (P .head) (r .prime) (r .counts) .basis)
+  basis-few = rw (polynomials-length termB (P .terms) 1 (P .head .basis)) (head-bounds (P .head) (r .field) (r .counts) .basis)
 
   pub sums-letters : All (λ s. Over (Letter (P .head .letters)) (lineOf s)) (P .sums)
   sums-letters = sums-over (P .head) packageLimits (P .sums) (r .sums)

@@ -1,4 +1,4 @@
--- What a package that reads holds: the prime's field, relations and basis as polynomials, and the lines of each sum.
+-- What a package that reads holds: the field that p means, relations and basis as polynomials, and the lines of each sum.
 use mathlib.Core.Bool.{Bool, true, false}
 use mathlib.Core.List.{List, [], _∷_, _++_}
 use Prim.Native.Nat.{ℕ, zero, suc}

@@ -54,7 +54,7 @@ module _ (s ks is cs os ls fs : List ℕ) (h : Head) (m at n : ℕ) (e : seenAll
       let x = relations-held s ks is cs os ls fs h m at n e marked inside lc lo ll lf in
       let y = basis-held s ks is cs os ls fs h m at n e marked inside lc lo ll lf in
       record {
-        prime = bounds .most;
+        most = bounds .most;
         field = readable-field P readable;
         gens = bounds .gens;
         basis = bounds .basis;

@@ -1,15 +1,13 @@
 -- GF(p): the numbers modulo a prime p are a field.
 use mathlib.Core.Path.{_≡_, sym, _∙_, ap}
-use mathlib.Core.Bool.{true}
 use mathlib.Core.Logic.{ite}
 use Prim.Native.Nat.{ℕ, zero, suc, _+_, _-_, _*_, _/_, _%_, _≤_, _<_}
 use native.Mathlib.Nat.{mod-lt, mod-eq-of-lt, mod-mod, mod-add-mod, add-mod-mod, mod-add-div', div-add-mod', add-mul-mod-self-right, mul-comm, add-comm, add-assoc, mul-assoc, mod-self, div-le-self}
 use native.Mathlib.Decide.{decLt}
 use native.Mathlib.Omega.{arith}
-use Rattle.field.specs.Prime.{Prime, isPrime}
-use Rattle.field.specs.Field.{Field, inverseMod, modular, fieldOf}
+use Rattle.field.specs.Prime.{Prime}
+use Rattle.field.specs.Field.{Field, inverseMod, modular}
 use Rattle.field.proofs.Table.{none-of-prime}
-use Rattle.field.proofs.Primality.{prime-iff}
 
 mod-mul-mod : (p a b : ℕ) → (a % p) * b % p ≡ a * b % p
 mod-mul-mod p a b = sym (ap (λ (x : ℕ). x % p) split ∙ add-mul-mod-self-right ((a % p) * b) (a / p * b) p)
@@ -77,8 +75,3 @@ module _ (p : ℕ) (h : Prime p) where
     mul-add = λ a b c. rw (mul-mod-mod p a (b + c), mod-add-mod, add-mod-mod) (ap (λ (x : ℕ). x % p) (omega arith));
     mul-inv = λ a n. sym (mod-mul-mod p a _) ∙ mul-inverse (a % p) (a % p) (omega arith) (omega arith) (mod-lt a positive);
   }
-
--- The field that a number means is one, wherever the prime test below 65,536 says yes.
-pub fieldOf-field : (p : ℕ) → p < 65536 → isPrime p ≡ true → Field (fieldOf p)
-unfolding fieldOf
-fieldOf-field p b e = modular-field p (prime-iff p b .0 e)

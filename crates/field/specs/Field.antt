@@ -1,8 +1,11 @@
 -- Finite fields: the operations, their laws, and which field a number means.
 use mathlib.Core.Path.{_≡_}
+use mathlib.Core.Bool.{true, false}
 use mathlib.Core.Logic.{_≢_, ite}
 use Prim.Native.Nat.{ℕ, zero, suc, _+_, _-_, _*_, _/_, _%_, _<_}
 use native.Mathlib.Decide.{decLt}
+use lib.Dec.{eqb}
+use Rattle.field.specs.ByteField.{byteSum, byteTimes, bytePower}
 
 -- The operations. The elements are the numbers below `size`; 0 is zero and 1 is one.
 -- Each operation is total: it first takes a number to the element that it stands for, `red`.
@@ -50,7 +53,19 @@ modular p = record {
   inv = λ a. inverseMod p (a % p) (a % p);
 }
 
--- The field that the number p of a package means: GF(p), for a prime p.
+-- Sums and products of bytes as polynomials in x over GF(2). Every byte is its own opposite; and of one other than 0 the power 255 is 1, so that its
+-- power 254 is its inverse.
+unfoldable pub gf256 : Operations
+gf256 = record {
+  size = 256;
+  red = λ a. a % 256;
+  add = λ a b. byteSum (a % 256) (b % 256);
+  mul = λ a b. byteTimes 8 (a % 256) (b % 256);
+  neg = λ a. a % 256;
+  inv = λ a. bytePower 254 (a % 256);
+}
+
+-- The field that the number p of a package means: GF(256) for 256, and GF(p) for a prime p.
 unfoldable pub fieldOf : ℕ → Operations
-unfolding modular
-fieldOf p = modular p
+unfolding modular gf256
+fieldOf p = elim (eqb p 256) [ true ↦ gf256 | false ↦ modular p ]

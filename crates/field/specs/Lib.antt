@@ -1,2 +1,4 @@
 pub mod Prime
+pub mod ByteField
+pub mod ByteTables
 pub mod Field

@@ -165,7 +165,7 @@ fn read_rows(
     FormulaRead::Formula(n)
 }
 
-// A formula under the prime p, with so many letters in use: refusal 16 with its line, or the number of its terms, which the three slices hold.
+// A formula over the field that p means, with so many letters in use: refusal 16 with its line, or the number of its terms, which the three slices hold.
 // Where it is refused they are scratch: nothing is promised of what they hold.
 pub fn read_formula(
     s: &[u8],

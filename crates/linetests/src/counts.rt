@@ -1,4 +1,4 @@
-// The value line of block 1: its shape, then refusal 3 for the prime, then 4 for the other counts.
+// The value line of block 1: its shape, then refusal 3 for p, then 4 for the other counts.
 
 use field::prime::is_prime;
 use numberreading::number::inner_number;
@@ -10,7 +10,7 @@ use text::NumAt;
 use text::bytes::is_within;
 ghost use mathlib.Core.Path.{_≡_};
 ghost use Rattle.text.specs.Pieces.{fields};
-ghost use Rattle.package.specs.Head.{headForm, primeFits, countsFit};
+ghost use Rattle.package.specs.Head.{headForm, fieldFits, countsFit};
 ghost use Rattle.package.specs.Held.{seenHead};
 
 // The value line of block 1: four numbers.
@@ -45,10 +45,13 @@ pub fn read_head(l: &[u8]) -> HeadRead
     }
 }
 
-// Whether p is a prime in bounds.
-pub fn prime_fits(p: u32) -> bool
-    ensures { λ r. ⌜ r ≡ primeFits p ⌝ }
+// Whether p means a field: it is 256, or a prime in bounds.
+pub fn field_fits(p: u32) -> bool
+    ensures { λ r. ⌜ r ≡ fieldFits p ⌝ }
 {
+    if p == 256 {
+        return true;
+    }
     if 65521 < p {
         return false;
     }

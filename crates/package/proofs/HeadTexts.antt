@@ -7,7 +7,7 @@ use Rattle.package.proofs.Answers.{refused-not-read, read-injective, th
 use Rattle.package.proofs.CountsTexts.{head-text, text-head}
 use Rattle.package.proofs.LineBounds.{HeadBounds}
 use Rattle.package.specs.Answer.{read, _then_}
-use Rattle.package.specs.Head.{HeadForm, noHead, head, headForm, primeFits, countsFit}
+use Rattle.package.specs.Head.{HeadForm, noHead, head, headForm, fieldFits, countsFit}
 use Rattle.package.specs.Names.{headNames, termNames}
 use Rattle.package.specs.Package.{namesLine, CountsBlock, countsJudged, countsLine, HeadBlock, firstTerm, termNamesLine, headLines}
 use Rattle.package.specs.Writing.{headFields}
@@ -18,7 +18,7 @@ use Rattle.lists.specs.Same.{same}
 use Rattle.text.specs.Pieces.{Pieces, final, piece, fields, writeFields}
 
 -- A names line.
-names-text : (names : List ℕ) (n : ℕ) (ps ms : Pieces) → namesLine names n ps ≡ read ms → ps ≡ piece names ms
+pub names-text : (names : List ℕ) (n : ℕ) (ps ms : Pieces) → namesLine names n ps ≡ read ms → ps ≡ piece names ms
 unfolding namesLine
 names-text names n (final x) ms e = absurd (refused-not-read 2 n ms e)
 names-text names n (piece l ls) ms e = go (same l names) refl
@@ -29,7 +29,7 @@ names-text names n (piece l ls) ms e = go (same l names) refl
 
 -- The line of counts.
 record CountsText (ps : Pieces) (c : CountsBlock) : Type 0 where
-  prime : primeFits (c .head .p) ≡ true
+  field : fieldFits (c .head .p) ≡ true
   counts : countsFit (c .head) ≡ true
   cut : ps ≡ piece (writeFields (headFields (c .head))) (c .rest)
 
@@ -38,7 +38,7 @@ unfolding countsLine countsJudged
 counts-text (final x) c e = absurd (refused-not-read 2 2 c e)
 counts-text (piece l ls) c e = by-form (headForm (fields l)) refl
   where
-    by-tests : (h : Head) → headForm (fields l) ≡ head h → (t u : Bool) → primeFits (h .p) ≡ t → countsFit h ≡ u → CountsText (piece l ls) c
+    by-tests : (h : Head) → headForm (fields l) ≡ head h → (t u : Bool) → fieldFits (h .p) ≡ t → countsFit h ≡ u → CountsText (piece l ls) c
     by-tests h q false u a b = absurd (refused-not-read 3 2 c (rw (countsLine, q, countsJudged, a) at e))
     by-tests h q true false a b = absurd (refused-not-read 4 2 c (rw (countsLine, q, countsJudged, a, b) at e))
     by-tests h q true true a b =
@@ -46,7 +46,7 @@ counts-text (piece l ls) c e = by-form (headForm (fields l)) refl
         let x : h ≡ c .head = ap (λ (d : CountsBlock). d .head) z in
         let y : ls ≡ c .rest = ap (λ (d : CountsBlock). d .rest) z in
         record {
-          prime = rw (← x) a;
+          field = rw (← x) a;
           counts = rw (← x) b;
           cut =
               ap₂ piece (sym (joined-pieces 32 l) ∙ ap writeFields (head-text (fields l) h q) ∙ ap (λ (k : Head). writeFields (headFields k)) x) y;
@@ -54,11 +54,11 @@ counts-text (piece l ls) c e = by-form (headForm (fields l)) refl
 
     by-form : (f : HeadForm) → headForm (fields l) ≡ f → CountsText (piece l ls) c
     by-form noHead q = absurd (refused-not-read 2 2 c (rw (countsLine, q) at e))
-    by-form (head h) q = by-tests h q (primeFits (h .p)) (countsFit h) refl refl
+    by-form (head h) q = by-tests h q (fieldFits (h .p)) (countsFit h) refl refl
 
 -- Lines 1 to 3.
 pub record HeadText (ps : Pieces) (b : HeadBlock) : Type 0 where
-  pub prime : primeFits (b .head .p) ≡ true
+  pub field : fieldFits (b .head .p) ≡ true
   pub counts : countsFit (b .head) ≡ true
   pub line : b .line ≡ firstTerm
   pub cut : ps ≡ piece headNames (piece (writeFields (headFields (b .head))) (piece termNames (b .rest)))
@@ -75,7 +75,7 @@ head-lines-text ps b e =
     let x : c .head ≡ b .head = ap (λ (d : HeadBlock). d .head) z in
     let y : w .0 ≡ b .rest = ap (λ (d : HeadBlock). d .rest) z in
     record {
-      prime = rw (← x) (t .prime);
+      field = rw (← x) (t .field);
       counts = rw (← x) (t .counts);
       line = sym (ap (λ (d : HeadBlock). d .line) z);
       cut =
@@ -83,7 +83,7 @@ head-lines-text ps b e =
           (t .cut ∙ ap₂ (λ (k : Head) (r : Pieces). piece (writeFields (headFields k)) r) x (names-text termNames 3 (c .rest) (w .0) (w .1) ∙ ap (piece termNames) y));
     }
 
-pub text-head-lines : (h : Head) → HeadBounds h → primeFits (h .p) ≡ true → countsFit h ≡ true → (rest : Pieces)
+pub text-head-lines : (h : Head) → HeadBounds h → fieldFits (h .p) ≡ true → countsFit h ≡ true → (rest : Pieces)
     → headLines (piece headNames (piece (writeFields (headFields h)) (piece termNames rest))) ≡ read (record { head = h; line = firstTerm; rest = rest })
 unfolding headLines namesLine countsLine countsJudged termNamesLine _then_
 text-head-lines h bounds a b rest = rw (countsLine, text-head h bounds, countsJudged, a, b)

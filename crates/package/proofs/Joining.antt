@@ -9,7 +9,7 @@ use borrow.Author.Tests.{lt-ltb, le-ltb}
 use Rattle.package.proofs.HeadTexts.{head-lines-text}
 use Rattle.package.proofs.TermBlockTexts.{block2-text}
 use Rattle.package.specs.Answer.{Answer, refused, read, _then_}
-use Rattle.package.specs.Head.{noHead, head, headForm, primeFits, countsFit}
+use Rattle.package.specs.Head.{noHead, head, headForm, fieldFits, countsFit}
 use Rattle.package.specs.Held.{seenNames, seenCounts, seenHeadLines, heldTerms, seenTerms, seenSums}
 use Rattle.package.specs.Names.{headNames, termNames}
 use Rattle.package.specs.Package.{namesLine, CountsBlock, countsJudged, countsLine, HeadBlock, firstTerm, firstSum, termNamesLine, headLines, termBlock, sumBlock, sized, readWith}
@@ -105,11 +105,11 @@ module _ (s : List ℕ) (at e : ℕ) (q : e ≡ at + stop 10 (drop at s)) where
     counts-wrong m = rw (cut-more 10 s at e q z, countsLine, m)
 
     module _ (h : Head) (m : headForm (fields (part s at (e - at))) ≡ head h) where
-      pub counts-3 : primeFits (h .p) ≡ false → refused 3 2 ≡ countsLine (lines (drop at s))
+      pub counts-3 : fieldFits (h .p) ≡ false → refused 3 2 ≡ countsLine (lines (drop at s))
       unfolding countsLine countsJudged
       counts-3 a = rw (cut-more 10 s at e q z, countsLine, m, countsJudged, a)
 
-      module _ (a : primeFits (h .p) ≡ true) where
+      module _ (a : fieldFits (h .p) ≡ true) where
         pub counts-4 : countsFit h ≡ false → refused 4 2 ≡ countsLine (lines (drop at s))
         unfolding countsLine countsJudged
         counts-4 b = rw (cut-more 10 s at e q z, countsLine, m, countsJudged, a, b)

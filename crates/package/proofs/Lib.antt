@@ -9,6 +9,7 @@ pub mod SumLines
 pub mod Joining
 pub mod FormulaLines
 -- Packages and their texts, the terms of an item, and what a caller of the reader knows:
+pub mod FieldNumbers
 pub mod LineBounds
 pub mod CountsTexts
 pub mod HeadTexts
@@ -19,6 +20,7 @@ pub mod SumBlockTexts
 pub mod WrittenBlocks
 pub mod PackageTexts
 pub mod ReadingNumbers
+pub mod FieldRefusal
 pub mod FormulaTexts
 pub mod ItemRuns
 pub mod ReadingFacts

@@ -6,11 +6,10 @@ use Prim.Native.Nat.{ℕ, _+_, _≤_, _<_}
 use native.Mathlib.Omega.{arith}
 use lib.Dec.{ltb, eqb}
 use lib.ListN.{length}
-use borrow.Author.Tests.{ltb-true, ltb-false}
-use Rattle.field.specs.Prime.{isPrime}
+use borrow.Author.Tests.{ltb-true}
 use Rattle.package.proofs.CountsLine.{counts-bounds}
 use Rattle.package.specs.Bounds.{coefFits, wordFits}
-use Rattle.package.specs.Head.{primeFits, countsFit}
+use Rattle.package.specs.Head.{fieldFits, countsFit}
 use Rattle.package.specs.Names.{termG, sumB}
 use Rattle.package.specs.Sums.{sumItemFits, ofs, sumFits}
 use Rattle.package.specs.Terms.{itemsOf, termFits}
@@ -18,6 +17,7 @@ use Rattle.package.specs.declared.Head.{Head}
 use Rattle.package.specs.declared.Limits.{Limits}
 use Rattle.text.proofs.Bytewise.{within-bounds, all-wider}
 use Rattle.text.specs.Bytes.{within, allWithin}
+use Rattle.package.proofs.FieldNumbers.{fits-iff, means-most}
 
 -- The counts of a package that reads.
 pub record HeadBounds (h : Head) : Type 0 where
@@ -26,18 +26,10 @@ pub record HeadBounds (h : Head) : Type 0 where
   pub gens : h .gens ≤ 32
   pub basis : h .basis ≤ 64
 
-prime-most : (p : ℕ) → primeFits p ≡ true → p ≤ 65521
-unfolding primeFits
-prime-most p = go (ltb 65521 p) refl
-  where
-    go : (t : Bool) → ltb 65521 p ≡ t → _≡_ {A = Bool} (elim t [ true ↦ false | false ↦ isPrime p ]) true → p ≤ 65521
-    go true e h = absurd (false≢true h)
-    go false e h = ltb-false 65521 p e
-
-pub head-bounds : (h : Head) → primeFits (h .p) ≡ true → countsFit h ≡ true → HeadBounds h
+pub head-bounds : (h : Head) → fieldFits (h .p) ≡ true → countsFit h ≡ true → HeadBounds h
 head-bounds h a b =
     let c = counts-bounds h b in
-    record { most = prime-most (h .p) a; letters = c .0; gens = c .1; basis = c .2 }
+    record { most = means-most (h .p) (fits-iff (h .p) .0 a); letters = c .0; gens = c .1; basis = c .2 }
 
 -- Coefficients and words in bounds.
 pub coef-below : (p c : ℕ) → coefFits p c ≡ true → c < p

@@ -43,7 +43,7 @@ sum-names-clear = without-final sumNames refl
 -- A readable package is read back from its text.
 module _ (P : Package) (r : Readable P) where
   bounds : HeadBounds (P .head)
-  bounds = head-bounds (P .head) (r .prime) (r .counts)
+  bounds = head-bounds (P .head) (r .field) (r .counts)
 
   package-clear : Clear 10 (packageLines P)
   unfolding packageLines
@@ -61,7 +61,7 @@ module _ (P : Package) (r : Readable P) where
   written-lines : (s : List ℕ) → lines s ≡ packageLines P → length s ≤ 65536 → readPackage s ≡ read P
   unfolding packageLines readPackage
   written-lines s c h =
-      let a = text-head-lines (P .head) bounds (r .prime) (r .counts) (termLines (P .terms) (piece sumNames (sumLines (P .sums)))) in
+      let a = text-head-lines (P .head) bounds (r .field) (r .counts) (termLines (P .terms) (piece sumNames (sumLines (P .sums)))) in
       let t = text-block2 (P .head) packageLimits bounds (sumLines (P .sums)) start [] (P .terms) firstTerm 0 refl (r .terms) in
       let u = text-block3 (P .head) packageLimits bounds 0 0 (suc (firstTerm + length (P .terms))) (P .sums) (rw the-line (r .sums)) in
       sym (package-read packageLimits s h _ (ap headLines c ∙ a) _ t (u .0)) ∙ ap
@@ -98,7 +98,7 @@ module _ (s : List ℕ) (b : HeadBlock) (t : TermBlock) (small : length s ≤ 65
       B .cut ∙ ap₂ (λ (ts : List TermLine) (ms : Pieces). termLines ts (piece sumNames ms)) (sym (B .terms)) (C .cut) in
       let cut = A .cut ∙ ap₂ (λ (h : Head) (ms : Pieces). piece headNames (piece (writeFields (headFields h)) (piece termNames ms))) (sym (B .head)) rest in (
         record {
-          prime = rw (B .head) (A .prime);
+          field = rw (B .head) (A .field);
           counts = rw (B .head) (A .counts);
           terms = rw (B .head, B .terms) (B .order);
           sums = subst (λ (n : ℕ). SumsInOrder (t .head) packageLimits 0 0 n (sumsOf (t .line) (t .rest))) l (C .order);

@@ -52,7 +52,7 @@ module _ (s ks is cs os ls : List ℕ) (h : Head) (m at n : ℕ) where
     whole-readable = reads-written wholePackage s (sym e) .0
 
     pub whole-bounds : HeadBounds h
-    whole-bounds = head-bounds h (whole-readable .prime) (whole-readable .counts)
+    whole-bounds = head-bounds h (whole-readable .field) (whole-readable .counts)
 
     -- The terms of item i of kind k stand from the start that fs marks for it up to the next one.
     pub whole-item : (fs : List ℕ) → StartsMarked h ks is m fs → (k i : ℕ) → within termG termB k ≡ true → within 1 (itemsOf h k) i ≡ true

@@ -70,7 +70,7 @@ unfolding rows same
 formulaLines p letters m (final x) = wrongAt 1
 formulaLines p letters m (piece l ls) = elim (same l formulaNames) [ false ↦ wrongAt 1 | true ↦ rows p letters m [] [] 2 ls ]
 
--- What bytes are read as under the prime p, with so many letters, at most `terms` terms and words of at most `len` letters.
+-- What bytes are read as over the field that p means, with so many letters, at most `terms` terms and words of at most `len` letters.
 unfoldable pub readFormula : ℕ → ℕ → Limits → List ℕ → FormulaOutcome
 unfolding formulaLines pieces
 readFormula p letters m bytes = formulaLines p letters m (lines bytes)

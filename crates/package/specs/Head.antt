@@ -1,8 +1,10 @@
--- Block 1 has one value line: the prime, the number of letters, of relations (generators) and of basis polynomials.
+-- Block 1 has one value line: p, which says which field, the number of letters, of relations (generators) and of basis polynomials.
+use mathlib.Core.Path.{_≡_}
 use mathlib.Core.Bool.{Bool, true, false}
-use Prim.Native.Nat.{ℕ}
-use lib.Dec.{ltb}
-use Rattle.field.specs.Prime.{isPrime}
+use mathlib.Core.Logic.{_⊎_}
+use Prim.Native.Nat.{ℕ, _≤_}
+use lib.Dec.{eqb, ltb}
+use Rattle.field.specs.Prime.{Prime, isPrime}
 use Rattle.package.specs.declared.Head.{Head}
 use Rattle.text.specs.Bytes.{within}
 use Rattle.text.specs.Field.{none, some, numThen, numLast}
@@ -29,10 +31,14 @@ headForm ps = elim (numThen number ps) [
   ]
 ]
 
--- p is a prime, 2 to 65,521.
-unfoldable pub primeFits : ℕ → Bool
+-- The numbers that mean a field: 256, and the primes up to 65,521.
+abbrev pub MeansField : ℕ → Type 0
+MeansField p = (p ≡ 256) ⊎ (Prime p × (p ≤ 65521))
+
+-- The test for one.
+unfoldable pub fieldFits : ℕ → Bool
 unfolding isPrime
-primeFits p = elim (ltb 65521 p) [ true ↦ false | false ↦ isPrime p ]
+fieldFits p = elim (eqb p 256) [ true ↦ true | false ↦ elim (ltb 65521 p) [ true ↦ false | false ↦ isPrime p ] ]
 
 -- Letters 1 to 26; relations 0 to 32; basis 0 to 64.
 unfoldable pub countsFit : Head → Bool

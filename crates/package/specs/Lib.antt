@@ -6,6 +6,7 @@ pub mod Terms
 pub mod Items
 pub mod Sums
 pub mod Package
+pub mod NoField
 pub mod Formula
 pub mod Writing
 pub mod Readable

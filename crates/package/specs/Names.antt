@@ -3,7 +3,7 @@ use mathlib.Core.List.{List}
 use Prim.Native.Nat.{ℕ}
 use Rattle.text.specs.Ascii.{ascii}
 
--- Block 1: the prime, the number of letters, of relations and of basis polynomials.
+-- Block 1: p, the number of letters, of relations and of basis polynomials.
 abbrev pub headNames : List ℕ
 headNames = ascii "p letters gens basis"
 

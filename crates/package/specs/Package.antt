@@ -7,7 +7,7 @@ use lib.ListN.{length}
 use Rattle.package.specs.Answer.{Answer}
 pub use Rattle.package.specs.Answer.{refused, read}
 unfoldable pub use Rattle.package.specs.Answer.{_then_}
-use Rattle.package.specs.Head.{HeadForm, noHead, head, headForm, primeFits, countsFit}
+use Rattle.package.specs.Head.{HeadForm, noHead, head, headForm, fieldFits, countsFit}
 use Rattle.package.specs.Names.{headNames, termNames}
 use Rattle.package.specs.Sums.{SumLine, block3, sumsOf}
 use Rattle.package.specs.Terms.{TermLine, start, TermBlock, block2}
@@ -43,9 +43,9 @@ pub record CountsBlock : Type 0 where
 
 -- What line 2 says: its shape, then 3 for p, then 4 for the other counts.
 unfoldable pub countsJudged : HeadForm → Pieces → Answer CountsBlock
-unfolding primeFits countsFit
+unfolding fieldFits countsFit
 countsJudged noHead ls = refused 2 2
-countsJudged (head h) ls = elim (primeFits (h .p)) [
+countsJudged (head h) ls = elim (fieldFits (h .p)) [
   | false ↦ refused 3 2
   | true ↦ elim (countsFit h) [ false ↦ refused 4 2 | true ↦ read (record { head = h; rest = ls }) ]
 ]

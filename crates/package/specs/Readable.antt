@@ -6,7 +6,7 @@ use Prim.Native.Nat.{ℕ, suc, _<_}
 use lib.ListN.{length}
 use Rattle.algebra.specs.Poly.{Term}
 use Rattle.package.specs.Formula.{rowFits}
-use Rattle.package.specs.Head.{primeFits, countsFit}
+use Rattle.package.specs.Head.{fieldFits, countsFit}
 use Rattle.package.specs.Names.{termG, termB, sumB, sumO}
 use Rattle.package.specs.Package.{Package, packageLimits, firstSum}
 use Rattle.package.specs.Sums.{SumLine, sumFits, sumFollows}
@@ -48,7 +48,7 @@ pub data SumsInOrder (h : Head) (m : Limits) : ℕ → ℕ → ℕ → List SumL
 
 -- A package whose counts, terms and sum lines are in bounds and in order. Its sum lines are numbered from the line of the first on.
 pub record Readable (P : Package) : Type 0 where
-  pub prime : primeFits (P .head .p) ≡ true
+  pub field : fieldFits (P .head .p) ≡ true
   pub counts : countsFit (P .head) ≡ true
   pub terms : TermsInOrder (P .head) packageLimits start 0 (P .terms)
   pub sums : SumsInOrder (P .head) packageLimits 0 0 (firstSum (length (P .terms))) (P .sums)

@@ -22,7 +22,7 @@ pub const SUM_G: u32 = 2;
 // Sums that equal differences of overlaps.
 pub const SUM_O: u32 = 3;
 
-// The value line of block 1: the prime, the number of letters, of relations and of basis polynomials.
+// The value line of block 1: p, which means a field, the number of letters, of relations and of basis polynomials.
 pub struct Head {
     pub p: u32,
     pub letters: u32,

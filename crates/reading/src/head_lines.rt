@@ -1,7 +1,7 @@
 // The head lines of a package, one behind the other: the names of block 1, the counts, the names of block 2.
 
 use linetests::counts::counts_fit;
-use linetests::counts::prime_fits;
+use linetests::counts::field_fits;
 use linetests::counts::read_head;
 use linetests::names::is_head_names;
 use linetests::names::is_term_names;
@@ -37,7 +37,7 @@ fn read_head_names(s: &[u8]) -> NamesRead
     NamesRead::Next(e + 1)
 }
 
-// Line 2, the counts, which starts at the place from: its shape, then 3 for the prime, then 4 for the other counts.
+// Line 2, the counts, which starts at the place from: its shape, then 3 for p, then 4 for the other counts.
 fn read_counts(s: &[u8], from: usize) -> CountsRead
     requires { ⌜ from ≤ length (now s) ⌝ }
     ensures { λ r. ⌜ seenCounts (now (s .entry)) r ≡ countsLine (lines (drop from (now (s .entry)))) ⌝ }
@@ -62,7 +62,7 @@ fn read_counts(s: &[u8], from: usize) -> CountsRead
             place: 2,
         });
     };
-    if !prime_fits(p) {
+    if !field_fits(p) {
         return CountsRead::Refused(Refusal {
             number: 3,
             place: 2,

@@ -47,7 +47,7 @@ basis-indexable P r = record {
     wider : (a : ℕ) → Letter (P .head .letters) a → Letter 26 a
     wider a l =
         let x = l .most in
-        let y = head-bounds (P .head) (r .prime) (r .counts) .letters in
+        let y = head-bounds (P .head) (r .field) (r .counts) .letters in
         record { least = l .least; most = omega arith }
 
 leads-fine : (ps : List Poly) → basisJudged ps ≡ fine → leadsJudged ps 1 ≡ fine

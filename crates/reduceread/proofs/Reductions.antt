@@ -29,7 +29,7 @@ turned-refused bytes text budget n k e = ap (packageReduced text budget) e
 
 -- The letters of an accepted package are at most 26.
 pub accepted-letters : (bytes cs os ls fs : List ℕ) (h : Head) (m : ℕ) → PackageAccepted bytes cs os ls fs h m → h .letters ≤ 26
-accepted-letters bytes cs os ls fs h m a = rw (a .head) at (head-bounds (a .whole .head) (a .readable .prime) (a .readable .counts) .letters)
+accepted-letters bytes cs os ls fs h m a = rw (a .head) at (head-bounds (a .whole .head) (a .readable .field) (a .readable .counts) .letters)
 
 -- What `read_formula` answers lies in the slices, cut to the terms that were read.
 pub formula-lies : (h : Head) (s cs os ls : List ℕ) (n : ℕ) → seenFormula s cs os ls (Formula n) ≡ readFormula (h .p) (h .letters) formulaLimits s → n ≤ 48 → WordsInside s os ls n

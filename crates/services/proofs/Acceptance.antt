@@ -11,12 +11,12 @@ use Rattle.acceptance.proofs.Packages.{accepted-iff-facts}
 use Rattle.acceptance.specs.Acceptance.{judgedBy, acceptance}
 use Rattle.services.specs.Services.{checkAnswer, checkedAs}
 use Rattle.services.specs.Demands.{Between, FactsHold}
-use Rattle.services.proofs.RefusalNumbers.{Numbered, read-number}
+use Rattle.package.proofs.ReadingNumbers.{Numbered, read-known}
 use Rattle.services.proofs.Answers.{accepted-is, answered-fine}
 
 pub accepted-iff : (bytes : List ℕ) → (checkedAs bytes .number ≡ 0) ↔ FactsHold bytes
 unfolding checkedAs checkAnswer acceptance judgedBy Numbered
-accepted-iff bytes = (λ n. go (readPackage bytes) refl (read-number bytes) n, from)
+accepted-iff bytes = (λ n. go (readPackage bytes) refl (read-known bytes) n, from)
   where
     go : (o : Outcome) → readPackage bytes ≡ o → Numbered (Between 1 7) (readPackage bytes) → checkedAs bytes .number ≡ 0 → FactsHold bytes
     go (refused r k) q u n =

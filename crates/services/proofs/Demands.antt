@@ -10,9 +10,10 @@ use Rattle.services.proofs.ServiceNumbers.{check-numbers, check-success
 use Rattle.services.proofs.Refusals.{refused-check, refused-list, refused-short, refused-member}
 use Rattle.services.proofs.Acceptance.{accepted-iff}
 use Rattle.services.proofs.Judgements.{package-first, formula-next, refusals-told, room-last}
+use Rattle.services.proofs.FieldRefusals.{check-3-iff, list-3-iff, short-3-iff, member-3-iff}
 use Rattle.services.proofs.RunsByRule.{steps-end-iff}
 use Rattle.services.proofs.DefinedAnswers.{check-count, list-overlaps, short-by-steps, member-by-steps}
-use Rattle.services.proofs.ShortForms.{same-bytes-iff, written-short, member-iff}
+use Rattle.services.proofs.ShortForms.{accepted-field, same-bytes-iff, written-short, member-iff}
 
 -- An answer's number is 0, and a refusal's is not.
 answer-or-refusal : {A B : Type 0} (n : ℕ) → (n ≡ 0 → A) → (n ≢ 0 → B) → A ⊎ B
@@ -51,6 +52,10 @@ demand2 = record {
   accepted = accepted-iff;
   check-count = check-count;
   list = list-overlaps;
+  check-field = check-3-iff;
+  list-field = list-3-iff;
+  short-field = short-3-iff;
+  member-field = member-3-iff;
   package-first = package-first;
   formula-next = formula-next;
   steps = steps-end-iff;
@@ -62,6 +67,7 @@ demand2 = record {
 
 demand3 : Demand3
 demand3 = record {
+  field = λ {bytes} {P} acc. accepted-field bytes P acc;
   same-bytes = λ {bytes} {P} acc {f} {g} x y.
       let i = same-bytes-iff bytes P acc (x .text) (y .text) f g (x .reads) (y .reads) (x .budget) (y .budget) (x .out) (y .out) (x .answered) (y .answered) in
       (λ e. i .0 (x .bytes-written ∙ e ∙ sym (y .bytes-written)), λ d. sym (x .bytes-written) ∙ i .1 d ∙ y .bytes-written);

@@ -1,6 +1,7 @@
 -- Every row of the tables of examples (specs/Examples.antt) holds, by computation.
 use mathlib.Core.Path.{_≡_, refl}
 use lib.Dec.{lit<}
+use Rattle.field.specs.ByteField.{byteSum, timesX, byteTimes}
 use Rattle.lists.specs.All.{All, done, _also_}
 use Rattle.words.specs.Order.{wordOrder}
 use Rattle.text.specs.Number.{writeNumber}
@@ -15,7 +16,7 @@ use Rattle.acceptance.specs.Acceptance.{acceptance}
 use Rattle.acceptance.specs.Reduction.{packageReduced}
 use Rattle.services.specs.Services.{listable, checkedAs}
 use Rattle.services.specs.Demands.{AcceptedAs}
-use Rattle.services.specs.Examples.{Keeps, Empties, Claim, examples, packageNone, packageOne, edges}
+use Rattle.services.specs.Examples.{Keeps, Empties, Claim, examples, packageNone, packageOne, edges, package256, byteRows}
 use Rattle.services.proofs.TrivialBases.{none-keeps, one-empties}
 use Rattle.services.proofs.Rows.{shortens, is-member, refuses, lacks-room, is-above, lists, accepts}
 
@@ -35,6 +36,10 @@ acceptedNone = (_, refl)
 acceptedOne : (P : Package) × (acceptance packageOne ≡ read P)
 unfolding acceptance packageOne
 acceptedOne = (_, refl)
+
+accepted256 : (P : Package) × (acceptance package256 ≡ read P)
+unfolding acceptance package256 byteSum timesX byteTimes
+accepted256 = (_, refl)
 
 -- No relations and no basis: each formula is its own short form.
 acceptedAsNone : AcceptedAs packageNone (acceptedNone .0)
@@ -87,4 +92,16 @@ edges-hold =
     also accepts (acceptedOne .1) refl
     also shortens (acceptedOne .1) refl refl
     also emptiesOne
+    also done
+
+-- The rows over GF(256).
+pub byte-rows-hold : All Claim byteRows
+unfolding Claim byteRows accepted256 byteSum timesX byteTimes packageReduced writeFormula writeNumber writeWord overlaps leads basis
+byte-rows-hold =
+    accepts (accepted256 .1) refl
+    also shortens (accepted256 .1) refl refl
+    also shortens (accepted256 .1) refl refl
+    also shortens (accepted256 .1) refl refl
+    also is-member (accepted256 .1) refl
+    also refuses (accepted256 .1) refl
     also done

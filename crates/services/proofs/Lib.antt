@@ -1,7 +1,7 @@
 -- The demands on the services, as theorems about what they answer, and 01's examples.
-pub mod RefusalNumbers
 pub mod VerdictNumbers
 pub mod ServiceNumbers
+pub mod FieldRefusals
 pub mod Refusals
 pub mod Room
 pub mod OutputStart

@@ -22,7 +22,7 @@ use Rattle.acceptance.specs.Acceptance.{judgedBy, acceptance}
 use Rattle.acceptance.specs.Reduction.{formulaLimits, Reduction, refusedBy, shortForm, reductionOf, formulaReduced, packageReduced, reduction}
 use Rattle.services.specs.Services.{listable, checkAnswer, checkedAs, wordsListed, listAnswer, listedAs, shortAnswer, shortenedAs, memberAnswer, membershipAs}
 use Rattle.services.specs.Demands.{Between, AcceptedAs, ReadAs}
-use Rattle.services.proofs.RefusalNumbers.{Numbered}
+use Rattle.package.proofs.ReadingNumbers.{Numbered}
 use Rattle.services.proofs.ServiceNumbers.{listable-number, ReductionNumber, reduction-number}
 
 -- What is judged to be read was read.
@@ -101,7 +101,7 @@ short-ran bytes text budget room e = go (reduction bytes text budget) refl (redu
     by N m true q z = absurd (let y : _≡_ {A = ℕ} 19 0 = rw (shortAnswer, q) at z in omega arith)
     by N m false q z = ltb-false room (length (writeFormula N)) q
 
-    go : (r : Reduction) → reduction bytes text budget ≡ r → ReductionNumber r → shortAnswer room r .number ≡ 0
+    go : (r : Reduction) → reduction bytes text budget ≡ r → ReductionNumber (Between 1 18) r → shortAnswer room r .number ≡ 0
         → (N : Poly) × (m : ℕ) × (reduction bytes text budget ≡ shortForm N m) × (length (writeFormula N) ≤ room) × RanTo bytes text budget N m
     go (refusedBy n k) q (a, b) z = absurd (omega arith)
     go (shortForm N m) q x z = (N, m, q, by N m (ltb room (length (writeFormula N))) refl z, reduction-ran bytes text budget N m q)
@@ -112,7 +112,7 @@ pub member-ran : (bytes text : List ℕ) (budget : ℕ) → membershipAs bytes t
 unfolding membershipAs memberAnswer ReductionNumber
 member-ran bytes text budget e = go (reduction bytes text budget) refl (reduction-number bytes text budget) e
   where
-    go : (r : Reduction) → reduction bytes text budget ≡ r → ReductionNumber r → memberAnswer r .number ≡ 0
+    go : (r : Reduction) → reduction bytes text budget ≡ r → ReductionNumber (Between 1 18) r → memberAnswer r .number ≡ 0
         → (N : Poly) × (m : ℕ) × (reduction bytes text budget ≡ shortForm N m) × RanTo bytes text budget N m
     go (refusedBy n k) q (a, b) z = absurd (omega arith)
     go (shortForm N m) q x z = (N, m, q, reduction-ran bytes text budget N m q)

@@ -23,7 +23,7 @@ use Rattle.acceptance.specs.Acceptance.{judgedBy, acceptance}
 use Rattle.acceptance.specs.Reduction.{formulaLimits, Reduction, refusedBy, shortForm, reductionOf, formulaReduced, packageReduced, reduction}
 use Rattle.services.specs.Services.{listable, checkAnswer, checkedAs, wordsListed, listAnswer, listedAs, shortAnswer, shortenedAs, memberAnswer, membershipAs}
 use Rattle.services.specs.Demands.{Between}
-use Rattle.services.proofs.RefusalNumbers.{Numbered, read-number}
+use Rattle.package.proofs.ReadingNumbers.{Numbered, read-known}
 use Rattle.services.proofs.VerdictNumbers.{Judged, basis-number, check-number}
 
 -- A refusal's number stays in a wider range.
@@ -32,56 +32,59 @@ unfolding Numbered
 outcome-wider hi h (refused n k) (a, b) = (a, omega arith)
 outcome-wider hi h (read P) x = tt
 
-verdict-wider : (v : Verdict) → Judged (Between 8 15) v → Judged (Between 1 15) v
+pub verdict-wider : (Q : ℕ → Type 0) → ((n : ℕ) → Between 8 15 n → Q n) → (v : Verdict) → Judged (Between 8 15) v → Judged Q v
 unfolding Judged
-verdict-wider (refusal n k) (a, b) = (omega arith, b)
-verdict-wider fine x = tt
+verdict-wider Q h (refusal n k) x = h n x
+verdict-wider Q h fine x = tt
 
 -- What was read is judged: its refusal's number is one of the reader or of the judge.
-judged-number : (Q : ℕ → Type 0) (judge : Package → Verdict) → ((P : Package) → Judged Q (judge P)) → (o : Outcome) → Numbered Q o → Numbered Q (judgedBy judge o)
+pub judged-number : (Q : ℕ → Type 0) (judge : Package → Verdict) → ((P : Package) → Judged Q (judge P)) → (o : Outcome) → Numbered Q o → Numbered Q (judgedBy judge o)
 unfolding Numbered Judged judgedBy
 judged-number Q judge j (refused n k) x = x
 judged-number Q judge j (read P) x = go (judge P) (j P)
   where
-    go : (v : Verdict) → Judged Q v → Numbered Q (elim v [ refusal n k ↦ refused n k | fine ↦ read P ])
+    go : (v : Verdict) → Judged Q v → Numbered Q {A = Package} (elim v [ refusal n k ↦ refused n k | fine ↦ read P ])
     go (refusal n k) y = y
     go fine y = tt
 
 pub acceptance-number : (bytes : List ℕ) → Numbered (Between 1 15) (acceptance bytes)
 unfolding acceptance
 acceptance-number bytes =
-    judged-number (Between 1 15) checked (λ P. verdict-wider (checked P) (check-number P)) (readPackage bytes)
-    (outcome-wider 15 (lit≤ tt) (readPackage bytes) (read-number bytes))
+    judged-number (Between 1 15) checked (λ P. verdict-wider (Between 1 15) (λ n x. (omega (arith, x .0), x .1)) (checked P) (check-number P)) (readPackage bytes)
+    (outcome-wider 15 (lit≤ tt) (readPackage bytes) (read-known bytes))
 
 pub listable-number : (bytes : List ℕ) → Numbered (Between 1 9) (listable bytes)
 unfolding listable
 listable-number bytes =
     judged-number (Between 1 9) (λ P. basisJudged (basis P)) (λ P. basis-number (Between 1 9) (lit≤ tt, lit≤ tt) (lit≤ tt, lit≤ tt) (basis P)) (readPackage bytes)
-    (outcome-wider 9 (lit≤ tt) (readPackage bytes) (read-number bytes))
+    (outcome-wider 9 (lit≤ tt) (readPackage bytes) (read-known bytes))
 
--- A reduction that, where it is a refusal, has one of the numbers 1 to 18.
-unfoldable pub ReductionNumber : Reduction → Type 0
-ReductionNumber (refusedBy n k) = Between 1 18 n
-ReductionNumber (shortForm N m) = Unit {0}
+-- A reduction that, where it is a refusal, has a number with the property Q: it has those of 16, 17 and 18, behind a package that is accepted.
+module _ (Q : ℕ → Type 0) where
+  unfoldable pub ReductionNumber : Reduction → Type 0
+  ReductionNumber (refusedBy n k) = Q n
+  ReductionNumber (shortForm N m) = Unit {0}
 
-ended-number : (budget : ℕ) (e : Ended) → ReductionNumber (reductionOf budget e)
-unfolding ReductionNumber reductionOf
-ended-number budget (answer N m) = tt
-ended-number budget (over k) = (lit≤ tt, lit≤ tt)
-ended-number budget spent = (lit≤ tt, lit≤ tt)
+  ended-number : Q 17 → Q 18 → (budget : ℕ) (e : Ended) → ReductionNumber (reductionOf budget e)
+  unfolding ReductionNumber reductionOf
+  ended-number q r budget (answer N m) = tt
+  ended-number q r budget (over k) = q
+  ended-number q r budget spent = r
 
-formula-number : (P : Package) (budget : ℕ) (o : FormulaOutcome) → ReductionNumber (formulaReduced P budget o)
-unfolding ReductionNumber formulaReduced
-formula-number P budget (wrongAt n) = (lit≤ tt, lit≤ tt)
-formula-number P budget (formula f) = ended-number budget (run 512 (fieldOf (P .head .p)) wordOrder (basis P) budget 0 f)
+  pub formula-number : Q 16 → Q 17 → Q 18 → (P : Package) (budget : ℕ) (o : FormulaOutcome) → ReductionNumber (formulaReduced P budget o)
+  unfolding ReductionNumber formulaReduced
+  formula-number p q r P budget (wrongAt n) = p
+  formula-number p q r P budget (formula f) = ended-number q r budget (run 512 (fieldOf (P .head .p)) wordOrder (basis P) budget 0 f)
 
-pub reduction-number : (bytes text : List ℕ) (budget : ℕ) → ReductionNumber (reduction bytes text budget)
+pub reduction-number : (bytes text : List ℕ) (budget : ℕ) → ReductionNumber (Between 1 18) (reduction bytes text budget)
 unfolding reduction Numbered ReductionNumber packageReduced
 reduction-number bytes text budget = go (acceptance bytes) (acceptance-number bytes)
   where
-    go : (o : Outcome) → Numbered (Between 1 15) o → ReductionNumber (packageReduced text budget o)
+    go : (o : Outcome) → Numbered (Between 1 15) o → ReductionNumber (Between 1 18) (packageReduced text budget o)
     go (refused n k) (a, b) = (a, omega arith)
-    go (read P) x = formula-number P budget (readFormula (P .head .p) (P .head .letters) formulaLimits text)
+    go (read P) x =
+        formula-number (Between 1 18) (lit≤ tt, lit≤ tt) (lit≤ tt, lit≤ tt) (lit≤ tt, lit≤ tt) P budget
+        (readFormula (P .head .p) (P .head .letters) formulaLimits text)
 
 -- The check.
 pub check-numbers : (bytes : List ℕ) → checkedAs bytes .number ≤ 15
@@ -130,7 +133,7 @@ pub short-numbers : (bytes text : List ℕ) (budget room : ℕ) → shortenedAs 
 unfolding shortenedAs ReductionNumber shortAnswer
 short-numbers bytes text budget room = go (reduction bytes text budget) (reduction-number bytes text budget)
   where
-    go : (r : Reduction) → ReductionNumber r → shortAnswer room r .number ≤ 19
+    go : (r : Reduction) → ReductionNumber (Between 1 18) r → shortAnswer room r .number ≤ 19
     go (refusedBy n k) (a, b) = omega arith
     go (shortForm N m) x = by (ltb room (length (writeFormula N))) refl
       where
@@ -142,7 +145,7 @@ pub short-success : (bytes text : List ℕ) (budget room : ℕ) → shortenedAs 
 unfolding shortenedAs ReductionNumber shortAnswer
 short-success bytes text budget room = go (reduction bytes text budget) (reduction-number bytes text budget)
   where
-    go : (r : Reduction) → ReductionNumber r → shortAnswer room r .number ≡ 0 → shortAnswer room r .place ≡ 0
+    go : (r : Reduction) → ReductionNumber (Between 1 18) r → shortAnswer room r .number ≡ 0 → shortAnswer room r .place ≡ 0
     go (refusedBy n k) (a, b) e = absurd (omega arith)
     go (shortForm N m) x e = by (ltb room (length (writeFormula N))) refl e
       where
@@ -155,7 +158,7 @@ pub member-numbers : (bytes text : List ℕ) (budget : ℕ) → membershipAs byt
 unfolding membershipAs ReductionNumber memberAnswer
 member-numbers bytes text budget = go (reduction bytes text budget) (reduction-number bytes text budget)
   where
-    go : (r : Reduction) → ReductionNumber r → memberAnswer r .number ≤ 18
+    go : (r : Reduction) → ReductionNumber (Between 1 18) r → memberAnswer r .number ≤ 18
     go (refusedBy n k) x = x .1
     go (shortForm [] m) x = lit≤ tt
     go (shortForm (t ∷ N) m) x = lit≤ tt
@@ -164,7 +167,7 @@ pub member-success : (bytes text : List ℕ) (budget : ℕ) → membershipAs byt
 unfolding membershipAs ReductionNumber memberAnswer
 member-success bytes text budget = go (reduction bytes text budget) (reduction-number bytes text budget)
   where
-    go : (r : Reduction) → ReductionNumber r → memberAnswer r .number ≡ 0 → memberAnswer r .place ≡ 0
+    go : (r : Reduction) → ReductionNumber (Between 1 18) r → memberAnswer r .number ≡ 0 → memberAnswer r .place ≡ 0
     go (refusedBy n k) (a, b) e = absurd (omega arith)
     go (shortForm [] m) x e = refl
     go (shortForm (t ∷ N) m) x e = refl

@@ -5,7 +5,7 @@ use mathlib.Core.Logic.{_↔_}
 use Prim.Native.Nat.{ℕ, zero, suc}
 use native.Mathlib.Omega.{arith}
 use lib.ListN.{length, getD}
-use Rattle.field.specs.Field.{fieldOf}
+use Rattle.field.specs.Field.{Field, fieldOf}
 use Rattle.lists.specs.All.{All, done, _also_}
 use Rattle.words.specs.Word.{Letter}
 use Rattle.words.specs.Order.{wordOrder}
@@ -17,10 +17,12 @@ use Rattle.algebra.specs.Short.{Accepted}
 use Rattle.algebra.specs.Steps.{answer, run}
 use Rattle.algebra.proofs.Running.{run-sequence, sequence-short, sequence-letters}
 use Rattle.algebra.proofs.Uniqueness.{short-iff, short-unique, short-zero}
+use Rattle.package.specs.Head.{MeansField}
 use Rattle.package.specs.Package.{Package, read}
 use Rattle.package.specs.Readable.{Readable}
 use Rattle.package.specs.Writing.{writeFormula}
 use Rattle.package.proofs.PackageTexts.{reads-written}
+use Rattle.package.proofs.FieldNumbers.{fits-iff}
 use Rattle.package.proofs.LineBounds.{HeadBounds, head-bounds}
 use Rattle.acceptance.specs.Content.{relations, basis}
 use Rattle.acceptance.specs.Check.{fine, checked}
@@ -49,7 +51,10 @@ module _ (bytes : List ℕ) (P : Package) (acc : AcceptedAs bytes P) where
   readable = reads-written P bytes (acc .reads) .0
 
   bounds : HeadBounds (P .head)
-  bounds = head-bounds (P .head) (readable .prime) (readable .counts)
+  bounds = head-bounds (P .head) (readable .field) (readable .counts)
+
+  pub accepted-field : MeansField (P .head .p) × Field (fieldOf (P .head .p))
+  accepted-field = (fits-iff (P .head .p) .0 (readable .field), readable-field P readable)
 
   fine-check : checked P ≡ fine
   fine-check = answered-fine bytes P (acc .reads) (acc .answered)

@@ -9,7 +9,7 @@ use mathlib.Core.Logic.{_↔_, _≢_, _⊎_}
 use mathlib.Core.List.{List, [], _∷_, _++_, List·Memᴰ}
 use Prim.Native.Nat.{ℕ, suc, _≤_, _<_}
 use lib.ListN.{length, take, drop}
-use Rattle.field.specs.Field.{fieldOf}
+use Rattle.field.specs.Field.{Field, fieldOf}
 use Rattle.words.specs.Word.{Letter}
 use Rattle.words.specs.Order.{wordOrder}
 use Rattle.algebra.specs.Poly.{Term, Poly, InLetters, sub}
@@ -18,6 +18,8 @@ use Rattle.algebra.specs.Short.{Short}
 use Rattle.algebra.specs.StepRule.{StepRule, NoStep}
 use Rattle.algebra.specs.Steps.{stepped}
 use Rattle.package.specs.Formula.{wrongAt, formula, readFormula}
+use Rattle.package.specs.Head.{MeansField}
+use Rattle.package.specs.NoField.{NoField}
 use Rattle.package.specs.Package.{Package, read, readPackage}
 use Rattle.package.specs.Readable.{Readable}
 use Rattle.package.specs.Writing.{writeFormula, writePackage}
@@ -169,6 +171,11 @@ pub record Demand2 : Type 0 where
   pub check-count : (bytes : List ℕ) (P : Package) → AcceptedAs bytes P → (os : List Overlap) × OverlapsOf P os × (checkedAs bytes .overlaps ≡ length os)
   pub list : (bytes out : List ℕ) → listedAs bytes (length out) .number ≡ 0
       → (P : Package) × (readPackage bytes ≡ read P) × ListsOverlaps P (listedAs bytes (length out)) out (listedInto bytes out)
+  -- every service refuses by 3 exactly where the first number of line 2 means no field: it is neither 256 nor a prime up to 65,521 (document 02, P9)
+  pub check-field : (bytes : List ℕ) → (checkedAs bytes .number ≡ 3) ↔ NoField bytes
+  pub list-field : (bytes : List ℕ) (room : ℕ) → (listedAs bytes room .number ≡ 3) ↔ NoField bytes
+  pub short-field : (bytes text : List ℕ) (budget room : ℕ) → (shortenedAs bytes text budget room .number ≡ 3) ↔ NoField bytes
+  pub member-field : (bytes text : List ℕ) (budget : ℕ) → (membershipAs bytes text budget .number ≡ 3) ↔ NoField bytes
   -- `reduction` is what both formula services judge before 19: the whole package as the check does, then 16 with the formula's line, then 17 and 18 as
   -- steps go
   pub package-first : (bytes text : List ℕ) (budget : ℕ) → checkedAs bytes .number ≢ 0
@@ -234,8 +241,10 @@ pub record OneShortForm (P : Package) (f : Poly) (s : List ℕ) : Type 0 where
 -- Demand 3. Whichever package is accepted, whichever two formulas in its letters are handed in under it, and whatever budget and output slice each has: if
 -- both get a short form, the two are the same bytes exactly when the difference of the formulas is a finite sum of coefficient × word × relation × word,
 -- of any size; each short form has no leading word of the basis inside and differs from its formula by such a sum; and every other polynomial fails one of
--- these two. So membership says yes exactly of such sums.
+-- these two. So membership says yes exactly of such sums. This is said once for both kinds of coefficients, GF(p) and GF(256), and shown for any field:
+-- the number p of a package that is accepted is a prime or 256, and what it means is a field.
 pub record Demand3 : Type 0 where
+  pub field : {bytes : List ℕ} {P : Package} → AcceptedAs bytes P → MeansField (P .head .p) × Field (fieldOf (P .head .p))
   pub same-bytes : {bytes : List ℕ} {P : Package} → AcceptedAs bytes P
       → {f g : Poly} {s t : List ℕ} → GetsBytes bytes P f s → GetsBytes bytes P g t → (s ≡ t) ↔ EqualModulo P f g
   pub short-form : {bytes : List ℕ} {P : Package} → AcceptedAs bytes P → {f : Poly} {s : List ℕ} → GetsBytes bytes P f s → OneShortForm P f s
@@ -251,6 +260,6 @@ pub record Demand3 : Type 0 where
 -- Demand 2 gets what each new answer is by its definition: a completed package is accepted (P1); the list goes on with inclusions (P2); words are counted
 -- and listed (P7); a trail gives its formula back (P8); every single change that makes a member is listed, once, and nothing else (P14).
 --
--- Demand 3 keeps its three fields under untrimmed bases (P2), any leading coefficient (P4), GF(256) (P9) and weights (P10), where `fieldOf`, `wordOrder` and
+-- Demand 3 keeps its fields under untrimmed bases (P2), any leading coefficient (P4) and weights (P10), where `fieldOf`, `wordOrder` and
 -- `Short` are given by the package. It gains that a formula and its short form act alike on blocks (P5), that the two houses' sums are the same (P11), that
 -- every sequence of steps ends in the service's short form (P12), and that a carried short form is the new one of the original formula (P13).

@@ -1,5 +1,5 @@
--- Document 01's examples as rows of tables: what the services answer on these bytes, and which of two words is greater.
--- That every row holds is proved in proofs/Examples.antt: `examples-hold` and `edges-hold`.
+-- Document 01's examples as rows of tables: what the services answer on these bytes, and which of two words is greater; and rows over GF(256).
+-- That every row holds is proved in proofs/Examples.antt: `examples-hold`, `edges-hold` and `byte-rows-hold`.
 use mathlib.Core.Path.{_≡_}
 use mathlib.Core.List.{List, [], _∷_}
 use Prim.Native.Nat.{ℕ, _≤_, _<_}
@@ -152,4 +152,39 @@ edges =
     ∷ acceptedRow packageOne 0
     ∷ shortRow packageOne "coef word\n1 aba\n6 bb\n" "coef word\n" 2
     ∷ zeroRow packageOne
+    ∷ []
+
+-- A package over GF(256): a a = 2 b, and a and b commute. The inverse of 2 is 142.
+unfoldable pub package256 : List ℕ
+unfolding text
+package256 = text (
+    ascii "p letters gens basis"
+    ∷ ascii "256 2 1 2"
+    ∷ ascii "kind item coef word"
+    ∷ ascii "G 1 1 aa"
+    ∷ ascii "G 1 2 b"
+    ∷ ascii "B 1 1 aa"
+    ∷ ascii "B 1 2 b"
+    ∷ ascii "B 2 1 ab"
+    ∷ ascii "B 2 1 ba"
+    ∷ ascii "kind item coef left of right"
+    ∷ ascii "B 1 1 - 1 -"
+    ∷ ascii "B 2 142 - 1 a"
+    ∷ ascii "B 2 142 a 1 -"
+    ∷ ascii "G 1 1 - 1 -"
+    ∷ ascii "O 1 2 - 2 -"
+    ∷ ascii "O 2 1 - 2 a"
+    ∷ ascii "O 2 1 b 1 -"
+    ∷ []
+    )
+
+-- Rows of it: it is accepted; 2 × 128 is 29, and 255 × 2 is 227; minus is plus; 256 is no coefficient.
+unfoldable pub byteRows : List Row
+byteRows =
+    acceptedRow package256 2
+    ∷ shortRow package256 "coef word\n128 aa\n" "coef word\n29 b\n" 1
+    ∷ shortRow package256 "coef word\n255 aa\n1 b\n" "coef word\n226 b\n" 1
+    ∷ shortRow package256 "coef word\n1 ab\n1 ba\n" "coef word\n" 1
+    ∷ memberRow package256 "coef word\n128 aa\n29 b\n" 1
+    ∷ refusedRow package256 "coef word\n256 a\n" 4294967295 65536 16 2
     ∷ []

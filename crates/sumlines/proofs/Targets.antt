@@ -2,7 +2,8 @@
 use mathlib.Core.Path.{_≡_, _∙_}
 use mathlib.Core.List.{List, []}
 use Prim.Native.Nat.{ℕ, _<_}
-use Rattle.field.specs.Field.{Field, modular, fieldOf}
+use Rattle.field.specs.Field.{Field, fieldOf}
+use Rattle.field.proofs.Fields.{below-of}
 use Rattle.words.specs.Order.{wordOrder}
 use Rattle.algebra.specs.Poly.{Poly, shift}
 use Rattle.algebra.specs.Written.{Written}
@@ -11,8 +12,7 @@ use Rattle.working.specs.Working.{formula, Holds, Working}
 
 -- one is an element
 pub one-below : (p : ℕ) → Field (fieldOf p) → 1 < p
-unfolding fieldOf modular
-one-below p F = F .one-lt
+one-below p F = below-of p (F .one-lt)
 
 -- what is placed between no letters is the polynomial
 pub target-held : {p : ℕ} {c l w o : List ℕ} {n : ℕ} (f : Poly) → Written (fieldOf p) wordOrder f → Holds c l w o n → formula c l w o n ≡ shift [] [] f

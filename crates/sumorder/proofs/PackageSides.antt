@@ -11,16 +11,16 @@ use Rattle.sumorder.specs.Reached.{Sides}
 
 module _ (h : Head) (coefs starts lens bytes firsts : List ℕ) (m : ℕ) (P : PackageLies h coefs starts lens bytes firsts m) where
   most : h .p ≤ 65536
-  most = let x = P .prime in omega arith
+  most = let x = P .most in omega arith
 
   pub basis-side : Sides h sumB coefs starts lens bytes firsts (h .gens + 1) (h .basis) 1 (h .gens) m
   unfolding ofs
-  basis-side = record { prime = most; field = P .field; terms = P .terms; targets = P .basis-runs; others = P .relation-runs; written = P .basis-written; count = refl }
+  basis-side = record { most = most; field = P .field; terms = P .terms; targets = P .basis-runs; others = P .relation-runs; written = P .basis-written; count = refl }
 
   pub relation-side : Sides h sumG coefs starts lens bytes firsts 1 (h .gens) (h .gens + 1) (h .basis) m
   unfolding ofs
-  relation-side = record { prime = most; field = P .field; terms = P .terms; targets = P .relation-runs; others = P .basis-runs; written = P .relations-written; count = refl }
+  relation-side = record { most = most; field = P .field; terms = P .terms; targets = P .relation-runs; others = P .basis-runs; written = P .relations-written; count = refl }
 
   pub overlap-side : Sides h sumO coefs starts lens bytes firsts (h .gens + 1) (h .basis) (h .gens + 1) (h .basis) m
   unfolding ofs
-  overlap-side = record { prime = most; field = P .field; terms = P .terms; targets = P .basis-runs; others = P .basis-runs; written = P .basis-written; count = refl }
+  overlap-side = record { most = most; field = P .field; terms = P .terms; targets = P .basis-runs; others = P .basis-runs; written = P .basis-written; count = refl }

@@ -29,7 +29,7 @@ pub record Reached (h : Head) (k i : ℕ) (bytes : List ℕ) (at line : ℕ) : T
 
 -- Targets and the polynomials of their sums: two runs of polynomials of a package, the targets in written form; sum lines of kind k name count of the others.
 pub record Sides (h : Head) (k : ℕ) (coefs starts lens bytes firsts : List ℕ) (tbase tcount obase ocount m : ℕ) : Type 0 where
-  pub prime : h .p ≤ 65536
+  pub most : h .p ≤ 65536
   pub field : Field (fieldOf (h .p))
   pub terms : Terms (h .p) coefs starts lens bytes m
   pub targets : Runs firsts tbase tcount m

@@ -19,7 +19,7 @@ basisIn h coefs starts lens bytes firsts = familyAt coefs starts lens bytes firs
 
 -- A package that was read lies in the slices.
 pub record PackageLies (h : Head) (coefs starts lens bytes firsts : List ℕ) (m : ℕ) : Type 0 where
-  pub prime : h .p ≤ 65521
+  pub most : h .p ≤ 65521
   pub field : Field (fieldOf (h .p))
   pub gens : h .gens ≤ 32
   pub basis : h .basis ≤ 64

@@ -7,6 +7,7 @@ use Prim.Native.Nat.{ℕ, _+_, _-_, _≤_, _<_}
 use native.Mathlib.Decide.{decLt}
 use native.Mathlib.Omega.{arith}
 use Rattle.field.specs.Field.{Operations, Field, fieldOf}
+use Rattle.field.proofs.Fields.{element-of}
 use Rattle.words.specs.declared.Comparison.the-variants.{Equal, Above}
 use Rattle.words.specs.Word.{Word}
 use Rattle.words.specs.Order.{Order, Lt, wordOrder}
@@ -17,7 +18,6 @@ use Rattle.working.specs.Working.{termAt, terms, formula}
 use Rattle.working.specs.Sorted.{Belongs}
 use Rattle.working.specs.Change.{single, onto, before}
 use Rattle.working.proofs.Terms.{terms-next, terms-end, terms-cut, terms-all}
-use Rattle.working.proofs.Falling.{size-of}
 
 insert-none : (K : Operations) (O : Order) (t : Term) → insert K O t [] ≡ put K (t .coef) (t .word) []
 unfolding insert
@@ -56,7 +56,7 @@ module _ (K : Operations) (O : Order) (t : Term) (F : ℕ → Term) (n k : ℕ) 
         ∙ sym (terms-cut F k n h)
 
 element : (p x : ℕ) → Field (fieldOf p) → x < p → fieldOf p .red x ≡ x
-element p x laws h = laws .red-elem x (rw (size-of p) h)
+element p x laws h = laws .red-elem x (element-of p h)
 
 -- f is what the arrays hold after the term x × v was added where the search says that it belongs
 module _ (p : ℕ) (c l w o : List ℕ) (n k x : ℕ) (v : Word) {present : Bool} (b : Belongs v l w o n k present) {f : Poly} where

@@ -1,20 +1,15 @@
 -- The written form of a run of terms by number: coefficients are elements, and words fall.
-use mathlib.Core.Path.{_≡_, refl}
+use mathlib.Core.Path.{_≡_}
 use Prim.Native.Nat.{ℕ, zero, suc, _+_, _≤_, _<_}
 use native.Mathlib.Decide.{ℕ-discrete}
 use native.Mathlib.Omega.{arith}
-use Rattle.field.specs.Field.{Operations, modular, fieldOf}
+use Rattle.field.specs.Field.{Operations}
 use Rattle.words.specs.Order.{Order, Lt}
 use Rattle.algebra.specs.Poly.{Term}
 use Rattle.algebra.specs.Written.{Written}
 use Rattle.algebra.specs.Written as W
 use Rattle.working.specs.Working.{terms}
 use Rattle.working.proofs.Terms.{all-terms}
-
--- the elements of the field that p means are the numbers below p
-pub size-of : (p : ℕ) → fieldOf p .size ≡ p
-unfolding fieldOf modular
-size-of p = refl
 
 module _ (K : Operations) (O : Order) (F : ℕ → Term) where
   pub written-coef : (i k : ℕ) → Written K O (terms F i k) → (j : ℕ) → i ≤ j → j < i + k → F j .coef < K .size

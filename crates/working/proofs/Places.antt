@@ -5,12 +5,13 @@ use Prim.Native.Nat.{ℕ, _+_, _≤_, _<_}
 use native.Mathlib.Omega.{arith}
 use lib.ListN.{length, getD}
 use Rattle.field.specs.Field.{fieldOf}
+use Rattle.field.proofs.Fields.{size-of}
 use Rattle.words.specs.Order.{wordOrder}
 use Rattle.algebra.specs.Written as W
 use Rattle.working.specs.Working.{termAt, terms, Room, Holds, HoldsNone, Working}
 use Rattle.working.specs.Rotation.{Moved}
 use Rattle.working.specs.Sorted.{Place, Sorted}
-use Rattle.working.proofs.Falling.{size-of, written-coef, written-falls}
+use Rattle.working.proofs.Falling.{written-coef, written-falls}
 
 module _ (c l w o : List ℕ) (n : ℕ) (f : Holds c l w o n) where
   pub place-in : (i : ℕ) → i < n → Place l w (getD o i 0)

@@ -98,7 +98,7 @@ start-difference-requires c κs =
     let p = c .before .before .before .before .before .items-test .taken in
     let wk = y .inv .3 in
     let ov = wk .found p in
-    ((v .prime, v .field), (ov, (hs, (v .terms, (v .others, (v .written, y .inv .2))))))
+    ((v .most, v .field), (ov, (hs, (v .terms, (v .others, (v .written, y .inv .2))))))
 
 put-overlap-requires : tie.Need-put-overlap-requires Inv-loop μ-loop Inv-items μ-items
 put-overlap-requires c κs =
@@ -164,7 +164,7 @@ take-line-requires c κs =
     let pb = pl .buffer in
     let pm = pl .many in
     let n = x .inv .0 in
-    ((v .prime, v .field), (ft, (v .terms, (v .others, (x .inv .2, (omega arith, omega arith))))))
+    ((v .most, v .field), (ft, (v .terms, (v .others, (x .inv .2, (omega arith, omega arith))))))
 
 add-line : tie.Need-add-line Inv-loop μ-loop Inv-items μ-items
 add-line c =

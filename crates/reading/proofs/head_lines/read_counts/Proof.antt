@@ -43,8 +43,8 @@ returns-2 c =
       tt,
     )
 
-prime-fits-requires : tie.Need-prime-fits-requires
-prime-fits-requires c κs = search needs
+field-fits-requires : tie.Need-field-fits-requires
+field-fits-requires c κs = search needs
 
 returns-3 : tie.Need-returns-3
 unfolding seenCounts CountsHeld
@@ -52,7 +52,7 @@ returns-3 c =
     let k = c .before .before .before in
     let i = k .before .before .before .before in (
       counts-3 _ _ _ (i .before .find .ensures .0) (i .if1 .left) _ (seen-head _ _ _ _ _ _ (k .p .given .1) (k .before .before .read-head .ensures))
-          (sym (c .before .prime-fits .ensures) ∙ not-true _ (c .if2 .taken)),
+          (sym (c .before .field-fits .ensures) ∙ not-true _ (c .if2 .taken)),
       tt,
     )
 
@@ -66,7 +66,7 @@ returns-4 c =
     let k = p .before .before in
     let i = k .before .before .before .before in (
       counts-4 _ _ _ (i .before .find .ensures .0) (i .if1 .left) _ (seen-head _ _ _ _ _ _ (k .p .given .1) (k .before .before .read-head .ensures))
-          (sym (p .prime-fits .ensures) ∙ not-false _ (c .before .before .if2 .left)) (sym (c .before .counts-fit .ensures) ∙ not-true _ (c .if3 .taken)),
+          (sym (p .field-fits .ensures) ∙ not-false _ (c .before .before .if2 .left)) (sym (c .before .counts-fit .ensures) ∙ not-true _ (c .if3 .taken)),
       tt,
     )
 
@@ -81,7 +81,7 @@ returns-5 c =
     let i = k .before .before .before .before in
     let f = sym (c .before .counts-fit .ensures) ∙ not-false _ (c .if3 .left) in (
       counts-right _ _ _ (i .before .find .ensures .0) (i .if1 .left) _ (seen-head _ _ _ _ _ _ (k .p .given .1) (k .before .before .read-head .ensures))
-          (sym (p .prime-fits .ensures) ∙ not-false _ (c .before .before .if2 .left)) f,
+          (sym (p .field-fits .ensures) ∙ not-false _ (c .before .before .if2 .left)) f,
       (counts-bounds _ f, omega (arith, i .if1 .left)),
     )
 
@@ -98,7 +98,7 @@ read-counts-spec =
     enum-known-p
     enum-told
     returns-2
-    prime-fits-requires
+    field-fits-requires
     returns-3
     counts-fit-requires
     returns-4

@@ -30,7 +30,7 @@ load-requires c κs =
     let a = s .0 in
     let f = s .1 .0 in
     let r = s .1 .1 in
-    ((omega (arith, a .lies .prime), a .lies .field), (f .given, (f .written, (r .room, (omega (arith, f .few, r .many), r .named, r .buffer)))))
+    ((omega (arith, a .lies .most), a .lies .field), (f .given, (f .written, (r .room, (omega (arith, f .few, r .many), r .named, r .buffer)))))
 
 cast-run : tie.Need-cast-run
 cast-run c = search needs
@@ -57,7 +57,7 @@ run-requires c κs =
     let f = s .1 .0 in
     let r = s .1 .1 in
     let l = c .before .before .before .before .before .before .before .before .before .before .before .before .before .before .before .before .before .before .before .before .load in (
-      (omega (arith, a .lies .prime), a .lies .field),
+      (omega (arith, a .lies .most), a .lies .field),
       (
         record { terms = a .lies .terms; runs = a .lies .basis-runs; written = a .lies .basis-written },
         (

@@ -57,7 +57,7 @@ start-with-requires c κs =
     let v = s .pre .0 in
     let i = c .before .before .before .before .before .before .items .inv in
     let t = c .before .before .before .before .before .items-test .taken in
-    ((v .prime, v .field), ((omega arith, omega arith), (v .terms, (v .targets, (v .written, i .2)))))
+    ((v .most, v .field), ((omega arith, omega arith), (v .terms, (v .targets, (v .written, i .2)))))
 
 loop-holds : tie.Need-loop-holds Inv-loop μ-loop Inv-items μ-items
 loop-holds c =
@@ -85,7 +85,7 @@ take-line-requires c κs =
     let p = kept-places (c .before .before .before .before .before .before .before .before .before .before .before .before .before .before .before .before .before .before .before .before .before .before .before .before .before .items .inv .2 .places) (then-sizes sw (x .inv .1)) in
     let q = p .many in
     let n = x .inv .0 in
-    ((v .prime, v .field), (subst (λ k. LineFits (s .args .h .p) (s .args .bytes .now) k (x .s)) (sym (v .count)) (next-fits _ _ _ _ _ _ _ (x .inv .3 .next) (sym (c .before .before .before .before .before .before .is-item .ensures _ _) ∙ c .before .before .before .before .before .if1 .taken)), (v .terms, (v .others, (x .inv .2, (omega arith, p .buffer))))))
+    ((v .most, v .field), (subst (λ k. LineFits (s .args .h .p) (s .args .bytes .now) k (x .s)) (sym (v .count)) (next-fits _ _ _ _ _ _ _ (x .inv .3 .next) (sym (c .before .before .before .before .before .before .is-item .ensures _ _) ∙ c .before .before .before .before .before .if1 .taken)), (v .terms, (v .others, (x .inv .2, (omega arith, p .buffer))))))
 
 add-line : tie.Need-add-line Inv-loop μ-loop Inv-items μ-items
 add-line c =
