@@ -123,7 +123,7 @@ libdir=$(LIBDIR)
 includedir=$(INCLUDEDIR)
 
 Name: vaultgarlic
-Description: Proved checker of noncommutative Groebner basis packages over GF(p)
+Description: Proved checker of noncommutative Groebner basis packages over GF(p) and GF(256)
 Version: $(VERSION)
 Libs: -L$${libdir} -lvaultgarlic
 Cflags: -I$${includedir}

@@ -1,4 +1,4 @@
-/* vaultgarlic.h: services on packages (relations, a basis, and the sums that certify it) over GF(p).
+/* vaultgarlic.h: services on packages (relations, a basis, and the sums that certify it) over GF(p) and GF(256).
  *
  * Every call takes any bytes, keeps no state, allocates nothing and may run on many threads at once.
  * The caller guarantees that each pointer is valid for its length and that the output does not overlap
@@ -22,7 +22,7 @@ enum {
     VG_ANSWERED = 0,
     VG_TOO_LONG = 1,       /* the package has over 65,536 bytes; 0 */
     VG_SHAPE = 2,          /* a line has the wrong shape, is unfinished or missing; line */
-    VG_NOT_PRIME = 3,      /* p is no prime below 65,536; 2 */
+    VG_NOT_PRIME = 3,      /* p is neither a prime from 2 to 65,521 nor 256; 2 */
     VG_COUNTS = 4,         /* letters, gens or basis out of bounds; 2 */
     VG_BOUNDS = 5,         /* a coefficient, letter, word length, item or `of` out of bounds; line */
     VG_ORDER = 6,          /* kinds, items or words out of order; line */

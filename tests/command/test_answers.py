@@ -48,6 +48,16 @@ class Answers(Command):
         self.answers(b"yes\n", "member", "e.pkg", "-", stdin=formula())
         self.answers(b"yes\n", "member", "--steps", "e.pkg", "-", stdin=formula(b"1 aba", b"6 bb"), told=b"2 steps\n")
 
+    def test_over_256(self):
+        # E with -1 written 1: aa becomes b, ab becomes ba. In GF(256) 6 + 5 is 3, and a number added to itself is 0.
+        lines = [line.replace(b" 6 ", b" 1 ") for line in E.split(b"\n")[:-1]]
+        self.put("any.pkg", text([lines[0], b"256 2 1 2"] + lines[2:]))
+        self.answers(b"accepted, 2 overlaps\n", "check", "any.pkg")
+        self.answers(E_LIST, "overlaps", "any.pkg")
+        self.answers(formula(b"3 b"), "short", "any.pkg", "-", stdin=formula(b"6 aa", b"5 b"))
+        self.answers(b"yes\n", "member", "any.pkg", "-", stdin=formula(b"142 aba", b"142 bb"))
+        self.answers(b"no\n", "member", "any.pkg", "-", stdin=formula(b"142 aba", b"114 bb"))
+
     def test_package_from_standard_input(self):
         self.put("aba", formula(b"1 aba"))
         self.answers(b"coef word\n1 bb\n", "short", "-", "aba", stdin=E)

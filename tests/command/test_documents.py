@@ -51,7 +51,7 @@ class Documents(unittest.TestCase):
     def test_the_table_of_packages(self):
         with open(os.path.join(ROOT, "examples", "README.md"), encoding="utf-8") as file:
             rows = re.findall(r"^\| `(\w+\.pkg)` \| .* \| (\d+) \| (\d+) \| (\d+) \| (\d+) \| (\d+) \|$", file.read(), re.M)
-        self.assertEqual(len(rows), 8)
+        self.assertEqual(len(rows), 9)
         for name, *counts, overlaps in rows:
             with self.subTest(name):
                 path = os.path.join(ROOT, "examples", name)

@@ -15,6 +15,7 @@ REFUSED = {
     "01-too-long": (1, 0),
     "02-shape": (2, 1),
     "03-not-prime": (3, 2),
+    "03-power-of-two": (3, 2),
     "04-counts": (4, 2),
     "05-bounds": (5, 4),
     "06-order": (6, 5),
@@ -83,6 +84,16 @@ class Refused(unittest.TestCase):
             self.assertEqual(content(os.path.join(self.refused, name + ".pkg")), content(os.path.join(self.folder, name + ".pkg")))
         self.assertEqual(len(content(os.path.join(self.folder, "01-too-long.pkg"))), 65537)
 
+    def test_the_power_of_two_alone_is_wrong(self):
+        lines = content(os.path.join(self.refused, "03-power-of-two.pkg")).split(b"\n")
+        self.assertEqual(lines[1], b"128 2 1 2")
+        for p, expected in ((b"2", 0), (b"4", 1), (b"64", 1), (b"256", 0), (b"512", 1), (b"32768", 1)):
+            with self.subTest(p):
+                package = b"\n".join(lines[:1] + [p + b" 2 1 2"] + lines[2:])
+                status, out, told = run(COMMAND, "check", "-", stdin=package)
+                self.assertEqual((status, out), (expected, b"" if expected else b"accepted, 2 overlaps\n"))
+                self.assertEqual(told.startswith(b"vaultgarlic: <stdin>:2: refused 3: "), expected == 1)
+
     def test_singular_differs_from_the_right_package_in_one_line(self):
         wrong = content(os.path.join(self.refused, "singular-moore-penrose.pkg")).split(b"\n")
         right = content(os.path.join(EXAMPLES, "mp_unique.pkg")).split(b"\n")
@@ -93,7 +104,7 @@ class Refused(unittest.TestCase):
 class Accepted(unittest.TestCase):
     def test_packages(self):
         packages = sorted(glob.glob(os.path.join(EXAMPLES, "*.pkg")))
-        self.assertEqual(len(packages), 8)
+        self.assertEqual(len(packages), 9)
         for package in packages:
             with self.subTest(os.path.basename(package)):
                 status, out, told = run(COMMAND, "check", package)

@@ -18,6 +18,7 @@ class Program(unittest.TestCase):
 
     def test_refused(self):
         self.prints(b"refused 3 2\n", with_line(2, b"9 2 1 2"))
+        self.prints(b"refused 3 2\n", with_line(2, b"128 2 1 2"))
         self.prints(b"refused 5 4\n", with_line(4, b"G 1 7 aa"))
         self.prints(b"refused 9 2\n", with_line(8, b"B 2 1 aab"))
 
@@ -35,7 +36,7 @@ class Program(unittest.TestCase):
 
     def test_the_command_prints_the_same(self):
         packages = glob.glob(os.path.join(EXAMPLES, "*.pkg"))
-        self.assertEqual(len(packages), 8)
+        self.assertEqual(len(packages), 9)
         for package in packages:
             with self.subTest(os.path.basename(package)), open(package, "rb") as file:
                 listed = run(COMMAND, "overlaps", package)

@@ -49,8 +49,8 @@ class OfPackages(Command):
         self.told(text(E_LINES[:9]), ":10", 2, TERM.replace("has the wrong shape", "is missing"), "   10 | (missing)")
 
     def test_3(self):
-        for counts in (b"9 2 1 2", b"65537 2 1 2", b"1 2 1 2", b"0 2 1 2", b"63001 2 1 2"):
-            self.told(with_line(2, counts), ":2", 3, "p is no prime from 2 to 65521", "    2 | " + counts.decode())
+        for counts in (b"9 2 1 2", b"65537 2 1 2", b"1 2 1 2", b"0 2 1 2", b"63001 2 1 2", b"128 2 1 2", b"512 2 1 2", b"65536 2 1 2"):
+            self.told(with_line(2, counts), ":2", 3, "p is neither a prime from 2 to 65521 nor 256", "    2 | " + counts.decode())
 
     def test_4(self):
         for counts in (b"7 27 1 2", b"7 0 1 2", b"7 2 33 2", b"7 2 1 65"):
@@ -60,6 +60,12 @@ class OfPackages(Command):
         for number, line in ((4, b"G 1 7 aa"), (4, b"G 1 0 aa"), (4, b"G 1 1 ac"), (4, b"G 1 1 " + b"a" * 25), (4, b"G 2 1 aa"),
                              (11, b"B 1 1 - 2 -"), (15, b"O 0 1 - 2 -")):
             self.told(with_line(number, line), ":%d" % number, 5, BOUNDS, "%5d | %s" % (number, line.decode()), HERE)
+
+    def test_5_over_256(self):
+        here = HERE.replace("1 to 6", "1 to 255")
+        for number, line in ((5, b"G 1 256 b"), (5, b"G 1 0 b"), (11, b"B 1 256 - 1 -"), (16, b"O 2 257 - 2 a")):
+            package = text([E_LINES[0], b"256 2 1 2"] + with_line(number, line).split(b"\n")[2:-1])
+            self.told(package, ":%d" % number, 5, BOUNDS, "%5d | %s" % (number, line.decode()), here)
 
     def test_5_without_items(self):
         package = text([b"p letters gens basis", b"2 26 0 0", b"kind item coef word", b"G 1 1 a", b"kind item coef left of right"])
@@ -124,6 +130,13 @@ class OfFormulas(Command):
         self.told(formula(b"1 a", b""), ":3", 16, term, "    3 | ")
         self.told(formula(b"1 a") + b"1 b", ":3", 16, term.replace("does not read", "is unfinished: no newline ends it"),
                   "    3 | 1 b (unfinished)")
+
+    def test_16_over_256(self):
+        term = "the line does not read; it must be a term in bounds, below the one before, and not the 49th"
+        self.put("any.pkg", text([E_LINES[0], b"256 2 0 0", E_LINES[2], E_LINES[9]]))
+        for line in (b"256 a", b"0 a", b"65521 a"):
+            self.told(formula(line), ":2", 16, term, "    2 | " + line.decode(), package="any.pkg")
+        self.answers(formula(b"255 a"), "short", "any.pkg", "-", stdin=formula(b"255 a"))
 
     def test_16_of_a_long_text(self):
         term = "the line does not read; it must be a term in bounds, below the one before, and not the 49th"

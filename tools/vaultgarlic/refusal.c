@@ -75,7 +75,7 @@ static void tell_line(const input *package, uint64_t number, uint64_t place)
         fprintf(stderr, "the line %s; it must be %s\n", fault(l, "has the wrong shape"), expected_shape(package, place));
         break;
     case VG_NOT_PRIME:
-        fputs("p is no prime from 2 to 65521\n", stderr);
+        fputs("p is neither a prime from 2 to 65521 nor 256\n", stderr);
         break;
     case VG_COUNTS:
         fputs("letters must be 1 to 26, gens 0 to 32, basis 0 to 64\n", stderr);

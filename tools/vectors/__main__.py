@@ -1,11 +1,12 @@
 """Writes the stored cases of the program `vectors`: crates/vectors/data/cases, and the answers it must print, crates/vectors/stdout.
 
-Run at the top of the repository: python3 tools/vectors. Every answer stands here as document 01 gives it (rows A1 to A45 of
-docs/DECISIONS.md); none is taken from a run of the program.
+Run at the top of the repository: python3 tools/vectors. Every answer stands here as documents 01 and 02 give it (rows A1 to
+A45 and P9.1 on of docs/DECISIONS.md); none is taken from a run of the program.
 """
 import basis
 import cases
 import formulas
+import gf256
 import listing
 import order
 import reading
@@ -13,6 +14,6 @@ import real
 import sums
 import terms
 
-for part in (reading, basis, sums, terms, formulas, order, listing, real):
+for part in (reading, basis, sums, terms, formulas, order, listing, real, gf256):
     part.cases()
 cases.write()
