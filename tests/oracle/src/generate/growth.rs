@@ -1,10 +1,11 @@
 //! Packages and formulas that grow to the bound of 512 terms and over it: refusals 10 and 17.
 
+use crate::coefficients::negative;
 use crate::generate::certify::certified;
 use crate::generate::draft::{Draft, Sum};
 use crate::generate::families::own_basis;
 use crate::generate::random::Random;
-use crate::poly::{add_term, negative, Poly};
+use crate::poly::{add_term, Poly};
 use crate::word::Word;
 
 /// The first `count` words of two letters `c` to `z`, greatest first. None begins or ends a leading word.
