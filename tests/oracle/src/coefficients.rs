@@ -9,7 +9,8 @@ pub const GF_256: u64 = 256;
 /// x^8 + x^4 + x^3 + x^2 + 1, bit i for x^i.
 const MODULUS: u64 = 0b1_0001_1101;
 
-/// Whether p names a field: 256, or a prime from 2 to 65,521, by trial of every smaller divisor up to the root.
+/// Whether p names a field: 256, or a prime from 2 to 65,521, by trial of every smaller divisor up to the
+/// root.
 pub fn is_field(p: u64) -> bool {
     let prime = |p: u64| (2..p).take_while(|d| d * d <= p).all(|d| !p.is_multiple_of(d));
     p == GF_256 || ((2..=65_521).contains(&p) && prime(p))
@@ -108,8 +109,9 @@ mod tests {
 
     #[test]
     fn products() {
-        // x × x^7 = x^8 = x^4 + x^3 + x^2 + 1. (x + 1)^2 = x^2 + 1. x^14 = x^6 × x^8 = x^10 + x^9 + x^8 + x^6,
-        // where x^10 + x^9 + x^8 = (x^2 + x + 1)(x^4 + x^3 + x^2 + 1) = x^6 + x^4 + x + 1.
+        // x × x^7 = x^8 = x^4 + x^3 + x^2 + 1, and (x + 1)^2 = x^2 + 1.
+        // x^14 = x^6 × x^8 = x^10 + x^9 + x^8 + x^6, where x^10 + x^9 + x^8 is (x^2 + x + 1) × x^8, that is
+        // (x^2 + x + 1)(x^4 + x^3 + x^2 + 1) = x^6 + x^4 + x + 1. So x^14 = x^4 + x + 1.
         assert_eq!(times(256, 2, 128), 29);
         assert_eq!(times(256, 3, 3), 5);
         assert_eq!(times(256, 128, 128), 19);

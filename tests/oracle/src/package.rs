@@ -68,13 +68,22 @@ fn names(lines: &Lines, line: u64, expected: &[u8]) -> Result<(), Refusal> {
     }
 }
 
+/// Line 2, where it has its shape: p and three counts.
+fn values(lines: &Lines) -> Option<[u64; 4]> {
+    let numbers: Option<Vec<u64>> = fields(lines.get(2)?).into_iter().map(number).collect();
+    numbers?.try_into().ok()
+}
+
+/// What stands in place of p, where lines 1 and 2 have their shape, whatever else is wrong.
+pub fn stated_p(bytes: &[u8]) -> Option<u64> {
+    let lines = Lines::of(bytes);
+    names(&lines, 1, NAMES_1).ok()?;
+    values(&lines).map(|[p, ..]| p)
+}
+
 /// Line 2: p and three counts. 2 for the whole line, then 3, then 4.
 fn counts(lines: &Lines) -> Result<Package, Refusal> {
-    let values: Option<Vec<u64>> = match lines.get(2) {
-        Some(line) => fields(line).into_iter().map(number).collect(),
-        None => None,
-    };
-    let Some(&[p, letters, gens, basis]) = values.as_deref() else {
+    let Some([p, letters, gens, basis]) = values(lines) else {
         return refuse(2, 2);
     };
     if !is_field(p) {
