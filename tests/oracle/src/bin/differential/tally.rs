@@ -6,6 +6,9 @@ use crate::input::{Input, Service, SERVICES};
 use oracle::coefficients::GF_256;
 use oracle::package::stated_p;
 
+/// So many random rounds must reach GF(256): one in five is over it.
+const ROUNDS: u64 = 20;
+
 #[derive(Default)]
 struct Counts {
     numbers: [[u64; 20]; 4],
@@ -96,7 +99,8 @@ impl Tally {
         row("all", |over_256, service| {
             self.counts(over_256).numbers[service as usize].iter().sum::<u64>().to_string()
         });
-        for (what, counts) in [("", &self.over_256), (", random rounds", &self.drawn_256)] {
+        let rounds = format!(" in {} random rounds", self.rounds);
+        for (what, counts) in [("", &self.over_256), (&rounds, &self.drawn_256)] {
             let reached = counts.reached().map(|(name, count)| format!("{count} {name}"));
             println!("over GF(256){what}: {}", reached.join(", "));
         }
@@ -116,9 +120,14 @@ impl Tally {
                 }
             }
         }
-        let drawn = self.drawn_256.reached().into_iter().filter(|_| self.rounds > 0);
-        for (name, _) in self.over_256.reached().into_iter().chain(drawn).filter(|(_, count)| *count == 0) {
-            missing.push(format!("no {name} over GF(256)"));
+        let mut sides = vec![("", &self.over_256)];
+        if self.rounds >= ROUNDS {
+            sides.push((" in random rounds", &self.drawn_256));
+        }
+        for (what, counts) in sides {
+            for (name, _) in counts.reached().into_iter().filter(|(_, count)| *count == 0) {
+                missing.push(format!("no {name} over GF(256){what}"));
+            }
         }
         missing
     }
