@@ -1,9 +1,10 @@
 //! Checking a package: refusals 8 to 15 of a package that reads, in their order.
 
+use crate::coefficients::negative;
 use crate::leads::judge_leads;
 use crate::overlaps::{overlaps, Overlap};
 use crate::package::{read, Package, SumLine};
-use crate::poly::{add_multiple, lead_word, negative, Poly};
+use crate::poly::{add_multiple, lead_word, Poly};
 use crate::refusal::{refuse, Refusal};
 
 /// The most terms that target minus sum may have after a sum line.

@@ -8,8 +8,8 @@ use crate::word::Word;
 
 const NAMES: &[u8] = b"coef word";
 
-/// Reads a formula over GF(p) in the first `letters` letters. Whatever is wrong, the first line with a fault
-/// gets 16; there is no bound on the bytes.
+/// Reads a formula over the field of p in the first `letters` letters. Whatever is wrong, the first line with
+/// a fault gets 16; there is no bound on the bytes.
 pub fn read_formula(bytes: &[u8], p: u64, letters: u64) -> Result<Poly, Refusal> {
     let lines = Lines::of(bytes);
     if lines.get(1) != Some(NAMES) {

@@ -4,6 +4,7 @@
 //! with. Polynomials are maps from words to coefficients, and every definition is followed word for word.
 
 pub mod check;
+pub mod coefficients;
 pub mod formula;
 pub mod generate;
 pub mod json;

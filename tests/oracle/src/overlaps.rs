@@ -1,6 +1,7 @@
 //! Overlaps of leading words, their words, their differences, and their list.
 
-use crate::poly::{add_multiple, lead_word, negative, Poly};
+use crate::coefficients::negative;
+use crate::poly::{add_multiple, lead_word, Poly};
 use crate::word::Word;
 
 const NAMES: &str = "item first second shared word\n";

@@ -1,5 +1,6 @@
 //! Reading a package: refusals 1 to 7, line by line from the top.
 
+use crate::coefficients::is_field;
 use crate::lines::{fields, number, word, Lines};
 use crate::poly::Poly;
 use crate::refusal::{refuse, Refusal};
@@ -39,11 +40,6 @@ pub struct Package {
     pub o_sums: BTreeMap<u64, Vec<SumLine>>,
 }
 
-/// Whether p is a prime from 2 to 65,521, by trial of every smaller divisor up to the root.
-pub fn prime_in_bounds(p: u64) -> bool {
-    (2..=65_521).contains(&p) && (2..p).take_while(|d| d * d <= p).all(|d| !p.is_multiple_of(d))
-}
-
 /// Whether a word has at most 24 letters, all among the first `letters` of the alphabet.
 pub fn word_in_bounds(word: &Word, letters: u64) -> bool {
     word.len() <= LETTERS && word.0.iter().all(|letter| u64::from(letter - b'a') < letters)
@@ -72,16 +68,25 @@ fn names(lines: &Lines, line: u64, expected: &[u8]) -> Result<(), Refusal> {
     }
 }
 
-/// Line 2: the prime and three counts. 2 for the whole line, then 3, then 4.
+/// Line 2, where it has its shape: p and three counts.
+fn values(lines: &Lines) -> Option<[u64; 4]> {
+    let numbers: Option<Vec<u64>> = fields(lines.get(2)?).into_iter().map(number).collect();
+    numbers?.try_into().ok()
+}
+
+/// What stands in place of p, where lines 1 and 2 have their shape, whatever else is wrong.
+pub fn stated_p(bytes: &[u8]) -> Option<u64> {
+    let lines = Lines::of(bytes);
+    names(&lines, 1, NAMES_1).ok()?;
+    values(&lines).map(|[p, ..]| p)
+}
+
+/// Line 2: p and three counts. 2 for the whole line, then 3, then 4.
 fn counts(lines: &Lines) -> Result<Package, Refusal> {
-    let values: Option<Vec<u64>> = match lines.get(2) {
-        Some(line) => fields(line).into_iter().map(number).collect(),
-        None => None,
-    };
-    let Some(&[p, letters, gens, basis]) = values.as_deref() else {
+    let Some([p, letters, gens, basis]) = values(lines) else {
         return refuse(2, 2);
     };
-    if !prime_in_bounds(p) {
+    if !is_field(p) {
         return refuse(3, 2);
     }
     if !(1..=26).contains(&letters) || gens > 32 || basis > 64 {

@@ -1,7 +1,8 @@
 //! Rewriting a formula step by step: refusals 17 and 18.
 
+use crate::coefficients::negative;
 use crate::package::Package;
-use crate::poly::{add_multiple, lead_word, negative, Poly};
+use crate::poly::{add_multiple, lead_word, Poly};
 use crate::refusal::{refuse, Refusal};
 use crate::word::Word;
 

@@ -1,5 +1,6 @@
 //! Packages on both sides of the bounds on sizes.
 
+use crate::coefficients::{add, negative, GF_256};
 use crate::generate::draft::{Draft, Sum, Term};
 use crate::generate::dress::add_cancelling;
 use crate::generate::edits::E;
@@ -7,6 +8,7 @@ use crate::generate::families::{copies_of_e, monomials, without_overlaps};
 use crate::generate::growth::{growing_sum, Lines};
 use crate::generate::package_rows::Row;
 use crate::generate::random::Random;
+use crate::generate::rows_256::e_256;
 use crate::poly::Poly;
 use crate::word::Word;
 
@@ -16,7 +18,7 @@ pub fn bound_packages() -> Vec<Row> {
     let mut put = |package: Vec<u8>, number: u64, place: u64, overlaps: u64| {
         rows.push(Row { package, check: (number, place, overlaps) })
     };
-    for p in [2, 7, 65_521] {
+    for p in [2, 7, 256, 65_521] {
         // 48 terms in G 1 and in B 1, one more in order, and one more that repeats a word.
         put(one_polynomial(p, 48).text(), 0, 0, 0);
         put(one_polynomial(p, 49).text(), 7, 52, 0);
@@ -52,14 +54,18 @@ pub fn bound_packages() -> Vec<Row> {
     put(text("B 32 7 -\n"), 5, 1028, 0);
     put(text("B 31 1 -\n"), 6, 1028, 0);
     // 65,536 bytes, and more of a package that would be accepted.
-    for bytes in [65_535, 65_536] {
-        put(padded_e(bytes), 0, 0, 2);
+    for p in [7, 256] {
+        for bytes in [65_535, 65_536] {
+            put(padded_e(p, bytes), 0, 0, 2);
+        }
+        for bytes in [65_537, 65_538] {
+            put(padded_e(p, bytes), 1, 0, 0);
+        }
+        put([&padded_e(p, 65_536)[..], b"\n"].concat(), 1, 0, 0);
+        let full = padded_e(p, 65_535);
+        let lines = full.iter().filter(|byte| **byte == 10).count() as u64;
+        put([&full[..], b"\n"].concat(), 2, lines + 1, 0);
     }
-    for bytes in [65_537, 65_538] {
-        put(padded_e(bytes), 1, 0, 0);
-    }
-    put([&padded_e(65_536)[..], b"\n"].concat(), 1, 0, 0);
-    put([&padded_e(65_535)[..], b"\n"].concat(), 2, padded_lines(65_535) + 1, 0);
     // Many overlaps: 4,324 where the shared letters are all `a`, and 276 where they hold the `b`. The list of
     // these 24 words has 250,130 bytes.
     let words: Vec<Word> = (0..24).map(|i| one_other(i, b'b')).collect();
@@ -96,7 +102,7 @@ pub fn near_bound(random: &mut Random, p: u64) -> Vec<u8> {
             }
             draft.text()
         }
-        _ => padded_e(random.between(65_530, 65_540) as usize),
+        _ => padded_e(p, random.between(65_530, 65_540) as usize),
     }
 }
 
@@ -112,16 +118,18 @@ fn one_polynomial(p: u64, terms: usize) -> Draft {
     draft
 }
 
-/// E with G lines that cancel, so that it has exactly so many bytes.
-fn padded_e(bytes: usize) -> Vec<u8> {
-    let (head, tail) = E.split_at(E.find("O 1 ").expect("an O line"));
+/// E with G lines that cancel, so that it has exactly so many bytes. It is over GF(256), or else over GF(7).
+fn padded_e(p: u64, bytes: usize) -> Vec<u8> {
+    let (p, e) = if p == GF_256 { (p, e_256()) } else { (7, E.to_string()) };
+    let (head, tail) = e.split_at(e.find("O 1 ").expect("an O line"));
     let mut text = head.to_string();
-    // Three lines with coefficients 1, 2 and 4 add up to 0, and two lines with 1 and 6. A line with left of n
-    // letters has 11 + n bytes.
-    let mut missing = bytes - E.len();
+    // Two lines with coefficients 1 and minus 1 add up to 0, and three with 1, 2 and minus their sum. A line
+    // with left of n letters has 11 + n bytes.
+    let (minus_one, third) = (negative(p, 1), negative(p, add(p, 1, 2)));
+    let mut missing = bytes - e.len();
     if missing % 2 == 1 {
         let left = "b".repeat(4);
-        text += &format!("G 1 1 {left} 1 -\nG 1 2 {left} 1 -\nG 1 4 {left} 1 -\n");
+        text += &format!("G 1 1 {left} 1 -\nG 1 2 {left} 1 -\nG 1 {third} {left} 1 -\n");
         missing -= 45;
     }
     while missing > 0 {
@@ -133,14 +141,10 @@ fn padded_e(bytes: usize) -> Vec<u8> {
         } else {
             1 + missing % 20
         };
-        text += &format!("G 1 1 {0} 1 -\nG 1 6 {0} 1 -\n", "b".repeat(letters));
+        text += &format!("G 1 1 {0} 1 -\nG 1 {minus_one} {0} 1 -\n", "b".repeat(letters));
         missing -= 2 * (11 + letters);
     }
     (text + tail).into_bytes()
-}
-
-fn padded_lines(bytes: usize) -> u64 {
-    padded_e(bytes).iter().filter(|byte| **byte == 10).count() as u64
 }
 
 #[cfg(test)]
@@ -156,7 +160,7 @@ mod tests {
     #[test]
     fn sizes_are_exact() {
         for bytes in [300, 301, 1000, 1001, 65_535, 65_536] {
-            assert_eq!(padded_e(bytes).len(), bytes);
+            assert_eq!((padded_e(7, bytes).len(), padded_e(256, bytes).len()), (bytes, bytes));
         }
         let places: Vec<u64> =
             bound_packages().iter().map(|row| list_overlaps(&row.package, 0).place).collect();

@@ -1,9 +1,10 @@
 //! Writing the sums of a basis: reduction with every step recorded.
 
+use crate::coefficients::{add, negative, times};
 use crate::generate::draft::{Draft, Sum};
 use crate::overlaps::overlaps;
 use crate::package::LETTERS;
-use crate::poly::{add_multiple, lead_word, negative, Poly};
+use crate::poly::{add_multiple, lead_word, Poly};
 use crate::word::Word;
 use std::collections::BTreeMap;
 
@@ -21,7 +22,7 @@ pub fn add_combination(
 ) {
     for ((inner_left, of, inner_right), c) in from {
         let key = (left.times(inner_left), *of, inner_right.times(right));
-        let new = (to.remove(&key).unwrap_or(0) + coef * c) % p;
+        let new = add(p, to.remove(&key).unwrap_or(0), times(p, coef, *c));
         if new != 0 {
             to.insert(key, new);
         }

@@ -1,11 +1,12 @@
 //! A small completion procedure: from relations to a basis, with every basis polynomial known as a sum over
 //! the relations. It gives up when anything grows over its bounds.
 
+use crate::coefficients::{inverse, negative, times};
 use crate::generate::certify::{add_combination, certified, reduce, Combination, Taken};
 use crate::generate::draft::Draft;
 use crate::generate::random::Random;
 use crate::overlaps::overlaps;
-use crate::poly::{add_multiple, inverse, lead, lead_word, negative, Poly};
+use crate::poly::{add_multiple, lead, lead_word, Poly};
 use crate::word::Word;
 
 const BASIS: usize = 24;
@@ -25,8 +26,8 @@ impl Known {
     /// Multiplies with the inverse of the leading coefficient.
     fn make_monic(&mut self, p: u64) {
         let factor = inverse(p, lead(&self.poly).expect("not zero").1);
-        self.poly.values_mut().for_each(|coef| *coef = *coef * factor % p);
-        self.sum.values_mut().for_each(|coef| *coef = *coef * factor % p);
+        self.poly.values_mut().for_each(|coef| *coef = times(p, *coef, factor));
+        self.sum.values_mut().for_each(|coef| *coef = times(p, *coef, factor));
     }
 
     /// Reduces by the others and keeps the sum right.

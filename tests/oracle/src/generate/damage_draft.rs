@@ -1,11 +1,18 @@
 //! Damage to a package with a refusal in view: each target changes what that refusal judges.
 
+use crate::coefficients::negative;
 use crate::generate::draft::{Draft, Sum, Term};
 use crate::generate::dress::add_cancelling;
 use crate::generate::random::Random;
 use crate::overlaps::{overlaps, Overlap};
-use crate::poly::{lead, lead_word, negative, Poly};
+use crate::poly::{lead, lead_word, Poly};
 use crate::word::Word;
+
+/// Numbers in place of p: some fields, and what is near them, out of bounds, or a power of a prime.
+const P_VALUES: [u64; 20] = [
+    0, 1, 4, 8, 9, 25, 128, 255, 256, 256, 257, 512, 961, 1_024, 63_001, 65_519, 65_533, 65_536, 65_537,
+    99_999,
+];
 
 /// Changes the draft towards one of the refusals 3 to 15 (1 and 2 are reached by damage to the text, 7 and
 /// 10 by packages of their own). The draft may stay as it was when it has nothing to change.
@@ -15,12 +22,12 @@ pub fn aim(random: &mut Random, draft: &mut Draft, number: u64) {
         return;
     }
     match number {
-        3 => draft.p = *random.pick(&[0, 1, 4, 9, 25, 961, 63_001, 65_519, 65_533, 65_536, 65_537, 99_999]),
+        3 => draft.p = *random.pick(&P_VALUES),
         4 => match random.below(4) {
             0 => draft.letters = *random.pick(&[0, 27, 99_999]),
             1 => draft.gens = *random.pick(&[33, 64, 65_537]),
             2 => draft.basis = *random.pick(&[65, 256, 65_600]),
-            _ => (draft.p, draft.letters) = (9, 27),
+            _ => (draft.p, draft.letters) = (*random.pick(&[9, 256]), 27),
         },
         5 => out_of_bounds(random, draft),
         6 => out_of_order(random, draft),

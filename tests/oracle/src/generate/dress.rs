@@ -1,9 +1,10 @@
 //! Changes to a valid package that keep it valid.
 
+use crate::coefficients::{add, negative};
 use crate::generate::draft::{Draft, Sum};
 use crate::generate::random::Random;
 use crate::overlaps::overlaps;
-use crate::poly::{lead_word, negative};
+use crate::poly::lead_word;
 use crate::word::Word;
 
 /// Splits coefficients, adds lines that cancel and mixes the lines of an item.
@@ -29,7 +30,7 @@ fn split(random: &mut Random, draft: &mut Draft) {
     let line = draft.sums[index].clone();
     let part = random.coef(draft.p);
     if part != line.coef {
-        let rest = (line.coef + negative(draft.p, part)) % draft.p;
+        let rest = add(draft.p, line.coef, negative(draft.p, part));
         draft.sums[index].coef = part;
         draft.sums.push(Sum { coef: rest, ..line });
     }

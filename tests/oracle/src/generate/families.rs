@@ -1,9 +1,10 @@
 //! Valid packages whose basis is known without a completion.
 
+use crate::coefficients::{inverse, negative};
 use crate::generate::certify::{certified, Combination};
 use crate::generate::draft::{Draft, Sum};
 use crate::generate::random::Random;
-use crate::poly::{add_term, inverse, Poly};
+use crate::poly::{add_term, Poly};
 use crate::word::Word;
 
 /// No relations and no basis: every formula is its own short form.
@@ -73,14 +74,14 @@ fn code(index: u64) -> Word {
 /// `copies` of document 01's package E side by side: letters a and b of copy i are two code words u and v. Each
 /// copy has relation uu - v, basis uu - v and uv - vu, and the overlaps uuu and uuv.
 pub fn copies_of_e(p: u64, copies: u64) -> Draft {
-    let none = Word::empty();
+    let (none, minus_one) = (Word::empty(), negative(p, 1));
     let (mut relations, mut basis) = (Vec::new(), Vec::new());
     for copy in 0..copies {
         let (u, v) = (code(2 * copy), code(2 * copy + 1));
-        let square = Poly::from([(u.times(&u), 1), (v.clone(), p - 1)]);
+        let square = Poly::from([(u.times(&u), 1), (v.clone(), minus_one)]);
         relations.push(square.clone());
         basis.push(square);
-        basis.push(Poly::from([(u.times(&v), 1), (v.times(&u), p - 1)]));
+        basis.push(Poly::from([(u.times(&v), 1), (v.times(&u), minus_one)]));
     }
     let mut draft = Draft::of(p, 26, &relations, &basis);
     for copy in 0..copies {
@@ -88,7 +89,7 @@ pub fn copies_of_e(p: u64, copies: u64) -> Draft {
         let (relation, square, commuting) = (copy + 1, 2 * copy + 1, 2 * copy + 2);
         draft.sums.push(Sum::new('B', square, 1, &none, relation, &none));
         draft.sums.push(Sum::new('B', commuting, 1, &none, relation, &u));
-        draft.sums.push(Sum::new('B', commuting, p - 1, &u, relation, &none));
+        draft.sums.push(Sum::new('B', commuting, minus_one, &u, relation, &none));
         draft.sums.push(Sum::new('G', relation, 1, &none, square, &none));
         draft.sums.push(Sum::new('O', square, 1, &none, commuting, &none));
         draft.sums.push(Sum::new('O', commuting, 1, &none, commuting, &u));
@@ -104,7 +105,7 @@ pub fn counter(p: u64, bits: usize) -> Draft {
     let word =
         |first: u8, rest: u8, count: usize| Word([vec![first], vec![rest; count], vec![b'c']].concat());
     let count_down =
-        |zeros: usize| Poly::from([(word(b'a', b'b', zeros), 1), (word(b'b', b'a', zeros), p - 1)]);
+        |zeros: usize| Poly::from([(word(b'a', b'b', zeros), 1), (word(b'b', b'a', zeros), negative(p, 1))]);
     own_basis(p, 3, &(0..bits).map(count_down).collect::<Vec<_>>()).expect("no overlaps")
 }
 

@@ -1,4 +1,4 @@
-//! Formulas under E whose answers are fixed by the requirements.
+//! Formulas whose answers under E are fixed by the requirements.
 
 /// A formula, a budget, and what the short form service answers into enough room.
 pub struct FormulaRow {
@@ -11,11 +11,34 @@ pub struct FormulaRow {
     pub output: String,
 }
 
+impl FormulaRow {
+    /// A formula that gets a short form: the terms of both, parted by commas, and the steps.
+    pub fn reduced(terms: &str, short: &str, steps: u32, budget: u32) -> FormulaRow {
+        let (formula, output) = (text(terms), lines(short));
+        FormulaRow { formula, budget, number: 0, place: 0, steps: steps.into(), output }
+    }
+
+    pub fn refused(formula: Vec<u8>, budget: u32, number: u64, place: u64) -> FormulaRow {
+        FormulaRow { formula, budget, number, place, steps: 0, output: String::new() }
+    }
+
+    /// Fails where the oracle answers something else under this package.
+    #[cfg(test)]
+    pub fn assert_holds(&self, package: &[u8]) {
+        use crate::services::{member, short_form};
+        let shown = String::from_utf8_lossy(&self.formula[..self.formula.len().min(200)]).into_owned();
+        let numbers = (self.number, self.place, self.steps);
+        let answer = short_form(package, &self.formula, self.budget, 1000);
+        assert_eq!((answer.number, answer.place, answer.count), numbers, "{shown}");
+        assert_eq!(String::from_utf8(answer.output.unwrap_or_default()).unwrap(), self.output, "{shown}");
+        let answer = member(package, &self.formula, self.budget);
+        assert_eq!((answer.number, answer.place, answer.count), numbers, "{shown}");
+        assert_eq!(answer.member == 1, self.output == "coef word\n", "{shown}");
+    }
+}
+
 pub fn formula_rows() -> Vec<FormulaRow> {
     let mut rows = Vec::new();
-    let mut put = |formula: Vec<u8>, budget: u32, (number, place): (u64, u64), steps: u32, output: String| {
-        rows.push(FormulaRow { formula, budget, number, place, steps: steps.into(), output });
-    };
     // Terms, and the terms of the short form, parted by commas; steps. Budgets at and around the steps.
     for (terms, short, steps) in [
         ("1 aaa", "1 ba", 1),
@@ -31,14 +54,14 @@ pub fn formula_rows() -> Vec<FormulaRow> {
         ("", "", 0),
     ] {
         for budget in [steps, steps + 1, u32::MAX] {
-            put(text(terms), budget, (0, 0), steps, lines(short));
+            rows.push(FormulaRow::reduced(terms, short, steps, budget));
         }
         for budget in 0..steps {
-            put(text(terms), budget, (18, budget.into()), 0, String::new());
+            rows.push(FormulaRow::refused(text(terms), budget, 18, budget.into()));
         }
     }
     for (formula, place) in unreadable() {
-        put(formula, 9, (16, place), 0, String::new());
+        rows.push(FormulaRow::refused(formula, 9, 16, place));
     }
     rows
 }
@@ -83,7 +106,8 @@ fn lines(terms: &str) -> String {
     format!("coef word\n{below}")
 }
 
-fn text(terms: &str) -> Vec<u8> {
+/// A formula of these terms, parted by commas.
+pub fn text(terms: &str) -> Vec<u8> {
     lines(terms).into_bytes()
 }
 
@@ -91,27 +115,11 @@ fn text(terms: &str) -> Vec<u8> {
 mod tests {
     use super::*;
     use crate::generate::edits::E;
-    use crate::services::{member, short_form};
+    use crate::services::short_form;
 
     #[test]
     fn rows_hold() {
-        for row in formula_rows() {
-            let shown = String::from_utf8_lossy(&row.formula[..row.formula.len().min(200)]).into_owned();
-            let answer = short_form(E.as_bytes(), &row.formula, row.budget, 1000);
-            assert_eq!(
-                (answer.number, answer.place, answer.count),
-                (row.number, row.place, row.steps),
-                "{shown}"
-            );
-            assert_eq!(String::from_utf8(answer.output.unwrap_or_default()).unwrap(), row.output, "{shown}");
-            let answer = member(E.as_bytes(), &row.formula, row.budget);
-            assert_eq!(
-                (answer.number, answer.place, answer.count),
-                (row.number, row.place, row.steps),
-                "{shown}"
-            );
-            assert_eq!(answer.member == 1, row.output == "coef word\n", "{shown}");
-        }
+        formula_rows().iter().for_each(|row| row.assert_holds(E.as_bytes()));
     }
 
     #[test]

@@ -1,14 +1,15 @@
 //! Packages and formulas that grow to the bound of 512 terms and over it: refusals 10 and 17.
 
+use crate::coefficients::negative;
 use crate::generate::certify::certified;
 use crate::generate::draft::{Draft, Sum};
 use crate::generate::families::own_basis;
 use crate::generate::random::Random;
-use crate::poly::{add_term, negative, Poly};
+use crate::poly::{add_term, Poly};
 use crate::word::Word;
 
 /// The first `count` words of two letters `c` to `z`, greatest first. None begins or ends a leading word.
-fn tail_words(count: usize) -> Vec<Word> {
+pub fn tail_words(count: usize) -> Vec<Word> {
     let letters = b'c'..=b'z';
     letters.clone().flat_map(|x| letters.clone().map(move |y| Word(vec![x, y]))).take(count).collect()
 }
@@ -107,7 +108,7 @@ mod tests {
 
     #[test]
     fn sums_reach_512_terms_and_no_more() {
-        for p in [2, 7, 65_521] {
+        for p in [2, 7, 256, 65_521] {
             for kind in ['B', 'G', 'O'] {
                 let random = &mut Random::new(3, p);
                 let mut number =
@@ -119,18 +120,20 @@ mod tests {
 
     #[test]
     fn steps_reach_512_terms_and_no_more() {
-        let random = &mut Random::new(4, 0);
-        let mut answer = |terms, reducible| {
-            let package = spreading(random, 7, terms).text();
-            let formula = formula_text(&spreading_formula(random, 7, 48, reducible));
-            let answer = short_form(&package, &formula, 1000, 1 << 20);
-            (answer.number, answer.place, answer.count)
-        };
-        // 48 + 16 × 29 = 512; 48 + 15 × 31 = 513; 48 + 11 × 46 = 554, document 01's example.
-        assert_eq!(answer(31, 16), (0, 0, 16));
-        assert_eq!(answer(31, 17), (17, 17, 0));
-        assert_eq!(answer(33, 14), (0, 0, 14));
-        assert_eq!(answer(33, 15), (17, 15, 0));
-        assert_eq!(answer(48, 48), (17, 11, 0));
+        for p in [7, 256] {
+            let random = &mut Random::new(4, 0);
+            let mut answer = |terms, reducible| {
+                let package = spreading(random, p, terms).text();
+                let formula = formula_text(&spreading_formula(random, p, 48, reducible));
+                let answer = short_form(&package, &formula, 1000, 1 << 20);
+                (answer.number, answer.place, answer.count)
+            };
+            // 48 + 16 × 29 = 512; 48 + 15 × 31 = 513; 48 + 11 × 46 = 554, document 01's example.
+            assert_eq!(answer(31, 16), (0, 0, 16));
+            assert_eq!(answer(31, 17), (17, 17, 0));
+            assert_eq!(answer(33, 14), (0, 0, 14));
+            assert_eq!(answer(33, 15), (17, 15, 0));
+            assert_eq!(answer(48, 48), (17, 11, 0));
+        }
     }
 }

@@ -1,5 +1,6 @@
 //! Random relations of several kinds, from which a completion often ends.
 
+use crate::coefficients::{negative, GF_256};
 use crate::generate::random::Random;
 use crate::poly::{add_multiple, add_term, Poly};
 use crate::word::Word;
@@ -13,8 +14,11 @@ pub struct Setting {
     pub relations: Vec<Poly>,
 }
 
-pub fn prime(random: &mut Random) -> u64 {
-    if random.one_in(4) {
+/// What stands in place of p: in one of five cases GF(256), else a prime.
+pub fn field(random: &mut Random) -> u64 {
+    if random.one_in(5) {
+        GF_256
+    } else if random.one_in(4) {
         *random.pick(&PRIMES)
     } else {
         *random.pick(&[2, 3, 7, 997, 65_521])
@@ -37,7 +41,7 @@ pub fn alphabet(random: &mut Random, size: u64) -> (u64, Vec<u8>) {
 }
 
 pub fn setting(random: &mut Random) -> Setting {
-    let p = prime(random);
+    let p = field(random);
     let size = random.between(1, 4);
     let (letters, alphabet) = alphabet(random, size);
     let mut relations = match random.below(6) {
@@ -81,7 +85,7 @@ fn commuting(random: &mut Random, p: u64, alphabet: &[u8]) -> Vec<Poly> {
             let lower = random.below(3);
             let mut f =
                 if random.one_in(2) { polynomial(random, p, alphabet, lower, 1) } else { Poly::new() };
-            let coef = if plain { p - 1 } else { random.coef(p) };
+            let coef = if plain { negative(p, 1) } else { random.coef(p) };
             add_term(p, &mut f, coef, Word(vec![*y, *x]));
             add_term(p, &mut f, 1, Word(vec![*x, *y]));
             relations.push(f);
@@ -111,7 +115,7 @@ fn involutions(random: &mut Random, p: u64, alphabet: &[u8]) -> Vec<Poly> {
     if let [x, y, ..] = *alphabet {
         let length = random.between(2, 4) as usize;
         let side = |x: u8, y: u8| Word((0..length).map(|i| if i % 2 == 0 { x } else { y }).collect());
-        relations.push(Poly::from([(side(x, y), 1), (side(y, x), p - 1)]));
+        relations.push(Poly::from([(side(x, y), 1), (side(y, x), negative(p, 1))]));
     }
     relations
 }

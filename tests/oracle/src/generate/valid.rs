@@ -5,7 +5,7 @@ use crate::generate::draft::Draft;
 use crate::generate::dress::dress;
 use crate::generate::families;
 use crate::generate::random::Random;
-use crate::generate::relations::{alphabet, prime, setting};
+use crate::generate::relations::{alphabet, field, setting};
 use crate::generate::stretch::stretched;
 
 /// How often a completion is tried before a family is taken instead.
@@ -35,7 +35,7 @@ pub fn completed(random: &mut Random) -> Draft {
 }
 
 fn family(random: &mut Random) -> Draft {
-    let p = prime(random);
+    let p = field(random);
     let size = random.between(1, 4);
     let (letters, alphabet) = alphabet(random, size);
     match random.below(9) {
@@ -55,29 +55,42 @@ fn family(random: &mut Random) -> Draft {
 #[cfg(test)]
 mod tests {
     use super::*;
+    use crate::coefficients::GF_256;
     use crate::services::check;
 
     #[test]
     fn generated_packages_are_accepted() {
-        for round in 0..400 {
-            let text = valid(&mut Random::new(1, round)).text();
+        let mut over_256 = 0;
+        for round in 0..600 {
+            let draft = valid(&mut Random::new(1, round));
+            let text = draft.text();
             let answer = check(&text);
             assert_eq!((answer.number, answer.place), (0, 0), "{}", String::from_utf8_lossy(&text));
+            over_256 += u64::from(draft.p == GF_256);
         }
+        assert!(over_256 >= 90, "{over_256} over GF(256)");
     }
 
     #[test]
     fn completions_end_often_enough() {
-        let mut overlaps = 0;
-        let mut ended = 0;
-        for round in 0..200 {
+        let mut all = (0, 0);
+        let mut over_256 = (0, 0);
+        // Coefficients that are there in GF(256) and not in GF(2).
+        let mut coefs = 0;
+        for round in 0..300 {
             let random = &mut Random::new(2, round);
             let setting = setting(random);
             if let Some(draft) = complete(random, setting.p, setting.letters, &setting.relations) {
-                ended += 1;
-                overlaps += check(&draft.text()).count;
+                let overlaps = check(&draft.text()).count;
+                all = (all.0 + 1, all.1 + overlaps);
+                if setting.p == GF_256 {
+                    over_256 = (over_256.0 + 1, over_256.1 + overlaps);
+                    coefs += draft.sums.iter().filter(|sum| sum.coef > 1).count();
+                }
             }
         }
-        assert!(ended >= 60 && overlaps >= 300, "{ended} ended, {overlaps} overlaps");
+        assert!(all.0 >= 90 && all.1 >= 450, "{all:?} ended, overlaps");
+        assert!(over_256.0 >= 30 && over_256.1 >= 40, "{over_256:?} ended, overlaps over GF(256)");
+        assert!(coefs >= 300, "{coefs} coefficients above 1 in sums over GF(256)");
     }
 }

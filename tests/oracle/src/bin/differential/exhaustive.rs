@@ -1,9 +1,11 @@
 //! Every small change of some kinds: all cuts of E, all its lines dropped, doubled and exchanged, some bytes
-//! put at every place, and many values of p.
+//! put at every place; many values of p; and every product of two elements of GF(256).
 
 use crate::input::{Input, Service, SERVICES};
 use crate::surround::Sink;
 use oracle::generate::edits::{made, E};
+use oracle::generate::products::every_product;
+use oracle::generate::rows_256::e_256;
 
 const FORMULA: &[u8] = b"coef word\n1 aba\n";
 
@@ -14,7 +16,27 @@ pub fn exhaustive(sink: Sink) {
     for end in 0..FORMULA.len() {
         all_services(E.as_bytes(), &FORMULA[..end], sink);
     }
-    let lines: Vec<&str> = E.lines().collect();
+    every_line(E, sink);
+    every_line(&e_256(), sink);
+    for place in 0..E.len() {
+        for byte in b" \n0a-" {
+            let mut bytes = E.as_bytes().to_vec();
+            bytes[place] = *byte;
+            check_and_list(&bytes, sink);
+        }
+    }
+    every_p(sink);
+    for (package, formulas) in every_product() {
+        for formula in &formulas {
+            let (service, budget, out_len) = (Service::ShortForm, 48, 10_000);
+            sink(&Input { service, package: &package, formula, budget, out_len, null: false });
+        }
+    }
+}
+
+/// Each line dropped and doubled, and each two exchanged.
+fn every_line(text: &str, sink: Sink) {
+    let lines: Vec<&str> = text.lines().collect();
     for one in 0..lines.len() {
         let mut dropped = lines.clone();
         dropped.remove(one);
@@ -28,18 +50,40 @@ pub fn exhaustive(sink: Sink) {
             ended(&exchanged, sink);
         }
     }
-    for place in 0..E.len() {
-        for byte in b" \n0a-" {
-            let mut bytes = E.as_bytes().to_vec();
-            bytes[place] = *byte;
-            check_and_list(&bytes, sink);
-        }
-    }
-    // Every p near the ends of the bounds, and every square of a prime that p is divided by.
+}
+
+/// Every p near the ends of the bounds, and every square of a prime that p is divided by. Every number near 256
+/// and, below 1,030, squares and higher powers of primes, also with coefficients p - 1 and p in the package and
+/// in the formula.
+fn every_p(sink: Sink) {
     let squares = (2..256u64).map(|n| n * n);
     for p in (0..1_100).chain(65_400..65_600).chain(squares).chain([97_343, 99_991, 99_999]) {
         check_and_list(made(&format!("{p} 1 0 0"), &[], &[]).as_bytes(), sink);
     }
+    let formula = |coef: u64| format!("coef word\n{coef} ab\n");
+    for p in (2..1_030).filter(|p| (250..=262).contains(p) || is_higher_power(*p)) {
+        for coef in [p - 1, p] {
+            // The relation and basis polynomial `ab` + coef `b`, which overlaps nothing.
+            let terms = ["G 1 1 ab", &format!("G 1 {coef} b"), "B 1 1 ab", &format!("B 1 {coef} b")];
+            let package = made(&format!("{p} 2 1 1"), &terms, &["B 1 1 - 1 -", "G 1 1 - 1 -"]);
+            for service in SERVICES {
+                for formula in [formula(p - 1), formula(p)] {
+                    let (package, formula) = (package.as_bytes(), formula.as_bytes());
+                    sink(&Input { service, package, formula, budget: 2, out_len: 100, null: true });
+                }
+            }
+        }
+    }
+}
+
+/// Whether n is the square or a higher power of a prime: its least divisor is the only prime that divides it.
+fn is_higher_power(n: u64) -> bool {
+    let least = (2..=n).find(|d| n.is_multiple_of(*d)).expect("n divides n");
+    let mut rest = n;
+    while rest.is_multiple_of(least) {
+        rest /= least;
+    }
+    rest == 1 && least < n
 }
 
 fn all_services(package: &[u8], formula: &[u8], sink: Sink) {

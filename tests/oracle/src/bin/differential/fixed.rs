@@ -10,13 +10,15 @@ use oracle::generate::formula_rows::formula_rows;
 use oracle::generate::growth::{spreading, spreading_formula};
 use oracle::generate::package_rows::package_rows;
 use oracle::generate::random::Random;
+use oracle::generate::rows_256::{doubled_256, e_256, formula_rows_256, package_rows_256};
 use oracle::services::short_form;
+use std::collections::BTreeSet;
 
 pub fn fixed(sink: Sink) {
     let random = &mut Random::new(0, 1);
     empty_slices(sink);
     let formula = b"coef word\n1 ab\n";
-    for row in package_rows().iter().chain(&bound_packages()) {
+    for row in package_rows().iter().chain(&package_rows_256()).chain(&bound_packages()) {
         for service in SERVICES {
             let input =
                 Input { service, package: &row.package, formula, budget: 2, out_len: 300_000, null: false };
@@ -37,8 +39,27 @@ pub fn fixed(sink: Sink) {
             around_formula(random, &package, &row.formula, sink);
         }
     }
+    over_256(random, sink);
     growing(random, sink);
     counting(sink);
+}
+
+/// Formulas over GF(256) with known answers, and the same under other packages over it.
+fn over_256(random: &mut Random, sink: Sink) {
+    let doubled = doubled_256().into_bytes();
+    for row in formula_rows_256() {
+        for service in [Service::ShortForm, Service::Member] {
+            let (formula, budget) = (&row.formula[..], row.budget);
+            sink(&Input { service, package: &doubled, formula, budget, out_len: 100, null: false });
+        }
+    }
+    let others = [families::empty(256, 2), families::constant(256, 2, 255)].map(|draft| draft.text());
+    let formulas: BTreeSet<Vec<u8>> = formula_rows_256().into_iter().map(|row| row.formula).collect();
+    for package in others.into_iter().chain([doubled, e_256().into_bytes()]) {
+        for formula in &formulas {
+            around_formula(random, &package, formula, sink);
+        }
+    }
 }
 
 /// Slices of length 0, as NULL and not.
@@ -60,7 +81,7 @@ fn empty_slices(sink: Sink) {
 /// Formulas that grow to 512 terms and over. A basis polynomial of t terms makes 48 + k (t - 2) terms of 48
 /// in k steps: 512 for t 31 and k 16, 513 for t 33 and k 15, and t 48 is document 01's example.
 fn growing(random: &mut Random, sink: Sink) {
-    for p in [2, 7, 65_521] {
+    for p in [2, 7, 256, 65_521] {
         for terms in [31, 33, 48] {
             let package = spreading(random, p, terms).text();
             for reducible in [10, 11, 14, 15, 16, 17, 48] {

@@ -44,7 +44,7 @@ impl Run {
         if let Some(cases) = &mut self.cases {
             cases.write(input, &expected).unwrap_or_else(|error| options::stop(&format!("cases: {error}")));
         }
-        self.tally.count(input.service, expected.numbers.number);
+        self.tally.count(input, &expected);
         if let Some(message) = compare::difference(&mut self.bytes, input, &expected) {
             self.report(input, &message);
             exit(1);
@@ -90,6 +90,7 @@ fn main() {
             break;
         }
         run.round = Some(number);
+        run.tally.rounds += 1;
         round::round(&mut Random::new(options.seed, number), &examples, &mut |input| run.take(input));
     }
     run.tally.print();

@@ -10,7 +10,7 @@ use oracle::generate::draft::Draft;
 use oracle::generate::formulas::Ground;
 use oracle::generate::growth::{growing_sum, meeting_formula, spreading, spreading_formula, Lines};
 use oracle::generate::random::Random;
-use oracle::generate::relations::prime;
+use oracle::generate::relations::field;
 use oracle::generate::valid::valid;
 
 /// How many rounds one of them takes an example package instead of a generated one.
@@ -57,7 +57,7 @@ pub fn round(random: &mut Random, examples: &[Draft], sink: Sink) {
         growing(random, sink);
     }
     if random.one_in(16) {
-        let p = prime(random);
+        let p = field(random);
         let mut package = near_bound(random, p);
         if random.one_in(2) {
             package = damage(random, &package);
@@ -79,7 +79,7 @@ fn all_services(random: &mut Random, package: &[u8], formula: &[u8], sink: Sink)
 
 /// A sum and a formula that come near 512 terms.
 fn growing(random: &mut Random, sink: Sink) {
-    let p = prime(random);
+    let p = field(random);
     let kind = *random.pick(&['B', 'G', 'O']);
     let top = random.between(505, 520) as usize;
     let lines = if random.one_in(2) { Lines::Mixed } else { Lines::UpAndDown };
