@@ -62,18 +62,18 @@ module _ (a b : ℕ) (p : a < 256) (q : b < 256) where
   pub product-zero-right : b ≡ 0 → 0 ≡ gf256 .mul a b
   product-zero-right e = sym (product-of-bytes ∙ rw e (times-zero 8 a))
 
-  module _ (m : 0 < a) (n : 0 < b) {i j : ℕ} (e : i ≡ logAt a) (f : j ≡ logAt b) where
-    product-by-logarithms : gf256 .mul a b ≡ raised (i + j) 1
-    product-by-logarithms = product-of-bytes ∙ Products.product-is powerAt logAt tables-rule a b m p n q ∙ rw (e, f)
+  module _ (m : 0 < a) (n : 0 < b) {i : ℕ} (e : i ≡ logAt a + logAt b) where
+    product-by-logarithms : gf256 .mul a b ≡ raised i 1
+    product-by-logarithms = product-of-bytes ∙ Products.product-is powerAt logAt tables-rule a b m p n q ∙ ap (λ (k : ℕ). raised k 1) (sym e)
 
-    pub product-low : {r : ℕ} → i + j < 255 → r ≡ powerAt (i + j) → r ≡ gf256 .mul a b
-    product-low h g = g ∙ Products.power-is powerAt logAt tables-rule (i + j) h ∙ sym product-by-logarithms
+    pub product-low : {r : ℕ} → i < 255 → r ≡ powerAt i → r ≡ gf256 .mul a b
+    product-low h g = g ∙ Products.power-is powerAt logAt tables-rule i h ∙ sym product-by-logarithms
 
-    pub product-high : {r : ℕ} → 255 ≤ i + j → i + j < 510 → r ≡ powerAt (i + j - 255) → r ≡ gf256 .mul a b
+    pub product-high : {r : ℕ} → 255 ≤ i → i < 510 → r ≡ powerAt (i - 255) → r ≡ gf256 .mul a b
     product-high h l g =
-        let around : i + j - 255 + 255 ≡ i + j = omega arith in
-        g ∙ Products.power-is powerAt logAt tables-rule (i + j - 255) (omega arith)
-        ∙ sym (Products.past-whole powerAt logAt tables-rule (i + j - 255)) ∙ ap (λ (k : ℕ). raised k 1) around ∙ sym product-by-logarithms
+        let around : i - 255 + 255 ≡ i = omega arith in
+        g ∙ Products.power-is powerAt logAt tables-rule (i - 255) (omega arith) ∙ sym (Products.past-whole powerAt logAt tables-rule (i - 255))
+        ∙ ap (λ (k : ℕ). raised k 1) around ∙ sym product-by-logarithms
 
 -- what the tables hold, in bounds
 pub logarithm-lt : (a : ℕ) → 0 < a → a < 256 → logAt a < 255

@@ -4,7 +4,7 @@
 
 use lists::bytes::wide;
 ghost use mathlib.Core.Path.{_≡_};
-ghost use Prim.Native.Nat.{_<_};
+ghost use Prim.Native.Nat.{_+_, _<_};
 ghost use Rattle.field.specs.ByteTables.{powerAt, logAt};
 ghost use Rattle.field.specs.Field.{gf256};
 
@@ -538,7 +538,7 @@ pub fn product(a: u32, b: u32) -> u32
     if b == 0 {
         return 0;
     }
-    let i = logarithm(a) + logarithm(b);
+    let i = logarithm_sum(a, b);
     if i < 255 {
         return power(i);
     }
@@ -553,10 +553,11 @@ fn power(i: u32) -> u32
     wide(POWERS[i as usize])
 }
 
-// The power of x that a is.
-fn logarithm(a: u32) -> u32
-    requires { ⌜ (0 < a) × (a < 256) ⌝ }
-    ensures { λ r. ⌜ (r ≡ logAt a) × (r < 255) ⌝ }
+// The sum of the logarithms of two bytes. The table is copied where it is named, so it is named once.
+fn logarithm_sum(a: u32, b: u32) -> u32
+    requires { ⌜ (0 < a) × (a < 256) × (0 < b) × (b < 256) ⌝ }
+    ensures { λ r. ⌜ (r ≡ logAt a + logAt b) × (r < 509) ⌝ }
 {
-    wide(LOGARITHMS[a as usize])
+    let table = LOGARITHMS;
+    wide(table[a as usize]) + wide(table[b as usize])
 }
