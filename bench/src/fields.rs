@@ -14,19 +14,20 @@ fn lent(twins: &Twins) -> [&[u8]; 2] {
     [&twins[0], &twins[1]]
 }
 
-/// A row under a formula needs so many steps, and so much of the check's time, to say anything.
-const LEAST_STEPS: u64 = 20;
-const LEAST_PART: f64 = 0.02;
+/// A formula has a row if its short form takes so much of the check's time: the ratio is one of two differences, and two
+/// runs of a check may differ by a hundredth.
+const LEAST_PART: f64 = 0.1;
 
 pub fn table(effort: Effort, packages: &[Named]) {
     let stored =
         |name: &str| packages.iter().find(|package| package.name == name).expect("a package").bytes.clone();
     let hecke = ["hecke_251", "hecke_256"].map(stored);
+    let pairs = [251, 256].map(|p| near_bounds::package(p, 8, 14_000));
     let near = [251, 256].map(|p| near_bounds::package(p, 31, 65_536));
     println!("GF(256) beside GF(251): the same words, and other coefficients\n");
 
     heads("bytes", "check", "us");
-    for (name, twins) in [("hecke", &hecke), ("near every bound", &near)] {
+    for (name, twins) in [("hecke", &hecke), ("eight pairs", &pairs), ("near every bound", &near)] {
         for package in twins {
             accepted(name, package);
         }
@@ -40,10 +41,10 @@ pub fn table(effort: Effort, packages: &[Named]) {
         assert_eq!(first.name, second.name, "the same classes over both fields");
         short_row(effort, &format!("hecke {}", first.name), &hecke, &[first.bytes, second.bytes]);
     }
-    for (name, twins) in [("hecke", &hecke), ("near every bound", &near)] {
-        for (terms, len) in [(12, 12), (48, 8), (24, 24), (48, 24)] {
+    for (name, twins) in [("hecke", &hecke), ("eight pairs", &pairs)] {
+        for (terms, len) in [(12, 12), (48, 8), (12, 24), (24, 24)] {
             let formulas = [0, 1].map(|k| random_formula(1, &twins[k], terms, len));
-            short_row(effort, &format!("{name} random"), twins, &formulas);
+            short_row(effort, &format!("{name} random {terms} x {len}"), twins, &formulas);
         }
     }
     println!();
@@ -55,9 +56,6 @@ fn short_row(effort: Effort, name: &str, packages: &Twins, formulas: &Twins) {
     let [Some(first), Some(second)] = counts else {
         return;
     };
-    if first.min(second) < LEAST_STEPS {
-        return;
-    }
     let (whole, check) = two_short_forms(effort, lent(packages), lent(formulas));
     let counts = [first, second];
     let left = [0, 1].map(|peer| [0, 1].map(|k| whole[peer][k] - check[peer][k]));
