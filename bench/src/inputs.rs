@@ -27,9 +27,12 @@ fn here() -> &'static Path {
     Path::new(env!("CARGO_MANIFEST_DIR"))
 }
 
-/// The packages of examples/.
-pub fn examples() -> Vec<Named> {
-    files(&here().join("../examples"), "pkg")
+/// The packages of examples/ and of bench/packages/, smallest first.
+pub fn packages() -> Vec<Named> {
+    let mut packages = files(&here().join("../examples"), "pkg");
+    packages.extend(files(&here().join("packages"), "pkg"));
+    packages.sort_by_key(|package| package.bytes.len());
+    packages
 }
 
 /// The stored formulas of a package, smallest first: bench/formulas/PACKAGE.CLASS.formula.
@@ -43,7 +46,7 @@ pub fn stored_formulas(package: &str) -> Vec<Named> {
     formulas
 }
 
-/// The prime, the last letter in use, and the leading words of the basis.
+/// The number in place of p, the last letter in use, and the leading words of the basis.
 fn leads(package: &[u8]) -> (usize, u8, Vec<String>) {
     let text = String::from_utf8_lossy(package);
     let mut lines = text.lines().map(|line| line.split(' ').collect::<Vec<_>>());

@@ -1,7 +1,9 @@
 //! The library's times, side by side with two Rust implementations of the same services, in one process.
 //!
-//! `--ms N` gives each row N milliseconds; `--table NAME` prints one table: packages, formulas, bytes or growth.
+//! `--ms N` gives each row N milliseconds; `--table NAME` prints one table: packages, formulas, bytes, growth or
+//! fields.
 
+mod fields;
 mod inputs;
 mod many_overlaps;
 mod measure;
@@ -26,9 +28,8 @@ fn main() {
     let effort = Effort { row: Duration::from_millis(ms) };
     let wanted = |table: &str| option("--table").is_none_or(|name| name == table);
 
-    let mut packages = inputs::examples();
-    packages.sort_by_key(|package| package.bytes.len());
-    packages.push(Named { name: "near every bound".into(), bytes: near_bounds::package(31, 65_536) });
+    let mut packages = inputs::packages();
+    packages.push(Named { name: "near every bound".into(), bytes: near_bounds::package(65_521, 31, 65_536) });
     if wanted("packages") {
         let many = Named { name: "many overlaps".into(), bytes: many_overlaps::package() };
         tables::packages(effort, packages.iter().chain([&many]));
@@ -41,5 +42,8 @@ fn main() {
     }
     if wanted("growth") {
         tables::growing_formulas(effort, &packages);
+    }
+    if wanted("fields") {
+        fields::table(effort, &packages);
     }
 }

@@ -20,6 +20,12 @@ fn check_call(peer: Peer, package: &[u8]) -> Call<'_> {
     })
 }
 
+fn short_call<'a>(peer: Peer, package: &'a [u8], formula: &'a [u8], out: &'a RefCell<Vec<u8>>) -> Call<'a> {
+    Box::new(move || {
+        black_box(peer.short_form(black_box(package), black_box(formula), &mut out.borrow_mut()));
+    })
+}
+
 /// The times of check.
 pub fn check(effort: Effort, package: &[u8]) -> Three {
     let mut calls: Vec<Call> = PEERS.iter().map(|peer| check_call(*peer, package)).collect();
@@ -58,13 +64,33 @@ impl Short {
 
 pub fn short_form(effort: Effort, package: &[u8], formula: &[u8]) -> Short {
     let out = &RefCell::new(vec![0; ROOM]);
-    let mut calls: Vec<Call> = Vec::new();
-    for peer in PEERS {
-        calls.push(Box::new(move || {
-            black_box(peer.short_form(black_box(package), black_box(formula), &mut out.borrow_mut()));
-        }));
-    }
+    let mut calls: Vec<Call> = PEERS.iter().map(|peer| short_call(*peer, package, formula, out)).collect();
     calls.extend(PEERS.iter().map(|peer| check_call(*peer, package)));
     let times = best(effort, &mut calls);
     Short { whole: three(&times[..3]), check: three(&times[3..]) }
+}
+
+/// Times of ours on two inputs, then of tuned on both.
+pub type TwoByTwo = [[f64; 2]; 2];
+
+const BY_TWO: [(Peer, usize); 4] = [(Peer::Ours, 0), (Peer::Ours, 1), (Peer::Tuned, 0), (Peer::Tuned, 1)];
+
+fn two_by_two(times: &[f64]) -> TwoByTwo {
+    [[times[0], times[1]], [times[2], times[3]]]
+}
+
+/// The times of check on two packages.
+pub fn two_checks(effort: Effort, packages: [&[u8]; 2]) -> TwoByTwo {
+    let mut calls: Vec<Call> = BY_TWO.iter().map(|(peer, k)| check_call(*peer, packages[*k])).collect();
+    two_by_two(&best(effort, &mut calls))
+}
+
+/// The times of the short form service, and of the check, on two packages with a formula each.
+pub fn two_short_forms(effort: Effort, packages: [&[u8]; 2], formulas: [&[u8]; 2]) -> (TwoByTwo, TwoByTwo) {
+    let out = &RefCell::new(vec![0; ROOM]);
+    let mut calls: Vec<Call> =
+        BY_TWO.iter().map(|(peer, k)| short_call(*peer, packages[*k], formulas[*k], out)).collect();
+    calls.extend(BY_TWO.iter().map(|(peer, k)| check_call(*peer, packages[*k])));
+    let times = best(effort, &mut calls);
+    (two_by_two(&times[..4]), two_by_two(&times[4..]))
 }

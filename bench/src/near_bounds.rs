@@ -9,7 +9,13 @@
 use crate::random::Random;
 use std::fmt::Write;
 
-const P: usize = 65_521;
+/// Minus c in GF(p), or in GF(256) where p is 256.
+fn minus(p: usize, c: usize) -> usize {
+    match p {
+        256 => c,
+        _ => p - c,
+    }
+}
 
 /// x, and Y as coefficients and words in falling order, the first coefficient 1.
 struct Pair {
@@ -18,7 +24,7 @@ struct Pair {
 }
 
 /// The words of pair i: the first two letters say which pair, and x or y, so that no word begins another.
-fn pair(random: &mut Random, i: usize) -> Pair {
+fn pair(random: &mut Random, p: usize, i: usize) -> Pair {
     let (terms, len) = match i {
         0 => (47, 23),
         _ => (if i <= 21 { 9 } else { 8 }, 5 + i * 7 % 19),
@@ -30,34 +36,34 @@ fn pair(random: &mut Random, i: usize) -> Pair {
     words.sort();
     words.dedup();
     assert_eq!(words.len(), terms, "distinct words");
-    let coef = |k| if k == 0 { 1 } else { 1 + random.below(P - 1) };
+    let coef = |k| if k == 0 { 1 } else { 1 + random.below(p - 1) };
     let coefs: Vec<usize> = (0..terms).map(coef).collect();
     Pair { x, y: coefs.into_iter().zip(words).collect() }
 }
 
-/// The package of so many pairs, 1 to 31, in at most so many bytes.
-pub fn package(pairs: usize, bytes: usize) -> Vec<u8> {
+/// The package over GF(p), or over GF(256), of so many pairs, 1 to 31, in at most so many bytes.
+pub fn package(p: usize, pairs: usize, bytes: usize) -> Vec<u8> {
     let mut random = Random::new(pairs as u64);
-    let pairs: Vec<Pair> = (0..pairs).map(|i| pair(&mut random, i)).collect();
+    let pairs: Vec<Pair> = (0..pairs).map(|i| pair(&mut random, p, i)).collect();
     let n = pairs.len();
-    let mut head = format!("p letters gens basis\n{P} 26 {} {}\nkind item coef word\n", 1 + n, 2 + 2 * n);
-    terms(&mut head, &pairs);
+    let mut head = format!("p letters gens basis\n{p} 26 {} {}\nkind item coef word\n", 1 + n, 2 + 2 * n);
+    terms(&mut head, p, &pairs);
     head += "kind item coef left of right\n";
-    let mut basis = basis_sums(&pairs);
+    let mut basis = basis_sums(p, &pairs);
     let mut rest = "G 1 1 - 1 -\n".to_string();
     for i in 0..n {
         writeln!(rest, "G {} 1 - {} -", 2 + i, 3 + 2 * i).unwrap();
     }
-    overlap_sums(&mut rest, &pairs);
+    overlap_sums(&mut rest, p, &pairs);
     let used = head.len() + rest.len() + basis.iter().map(String::len).sum::<usize>();
     assert!(used <= bytes, "{n} pairs need {used} bytes");
-    fill(&mut random, &mut basis, n, bytes - used);
+    fill(&mut random, p, &mut basis, n, bytes - used);
     (head + &basis.concat() + &rest).into_bytes()
 }
 
 /// Block 2.
-fn terms(text: &mut String, pairs: &[Pair]) {
-    let minus = |c: usize| P - c;
+fn terms(text: &mut String, p: usize, pairs: &[Pair]) {
+    let minus = |c: usize| minus(p, c);
     writeln!(text, "G 1 1 aa\nG 1 {} b", minus(1)).unwrap();
     let write_ax = |text: &mut String, kind: char, item: usize, pair: &Pair| {
         writeln!(text, "{kind} {item} 1 a{}", pair.x).unwrap();
@@ -80,8 +86,8 @@ fn terms(text: &mut String, pairs: &[Pair]) {
 }
 
 /// The lines of each B item: ab - ba is (aa - b) a - a (aa - b), and aY - bx is (aa - b) x - a (ax - Y).
-fn basis_sums(pairs: &[Pair]) -> Vec<String> {
-    let minus = P - 1;
+fn basis_sums(p: usize, pairs: &[Pair]) -> Vec<String> {
+    let minus = minus(p, 1);
     let mut sums = vec!["B 1 1 - 1 -\n".to_string(), format!("B 2 1 - 1 a\nB 2 {minus} a 1 -\n")];
     for (i, pair) in pairs.iter().enumerate() {
         let (item, relation) = (3 + 2 * i, 2 + i);
@@ -93,21 +99,21 @@ fn basis_sums(pairs: &[Pair]) -> Vec<String> {
 
 /// The O lines. aa with ay: the difference is (ab - ba) x + b (ax - Y) - the sum of c (aa - b) y' over the other terms
 /// c y' of Y.
-fn overlap_sums(text: &mut String, pairs: &[Pair]) {
+fn overlap_sums(text: &mut String, p: usize, pairs: &[Pair]) {
     text.push_str("O 1 1 - 2 -\nO 2 1 - 2 a\nO 2 1 b 1 -\n");
     for (i, pair) in pairs.iter().enumerate() {
         let item = 3 + 2 * i;
         writeln!(text, "O {item} 1 - {} -", item + 1).unwrap();
         writeln!(text, "O {} 1 - 2 {}\nO {} 1 b {item} -", item + 1, pair.x, item + 1).unwrap();
         for (c, y) in &pair.y[1..] {
-            writeln!(text, "O {} {} - 1 {y}", item + 1, P - c).unwrap();
+            writeln!(text, "O {} {} - 1 {y}", item + 1, minus(p, *c)).unwrap();
         }
     }
 }
 
 /// Adds lines that cancel each other, with short and long words, in turn to all B items. Every 16th item first gets ten
 /// multiples of the relation with 48 terms and then takes them away, so that 480 terms are held.
-fn fill(random: &mut Random, items: &mut [String], pairs: usize, mut room: usize) {
+fn fill(random: &mut Random, p: usize, items: &mut [String], pairs: usize, mut room: usize) {
     let line = |item: usize, c: usize, left: &str, of: usize, right: &str| {
         format!("B {} {c} {left} {of} {right}\n", item + 1)
     };
@@ -120,10 +126,10 @@ fn fill(random: &mut Random, items: &mut [String], pairs: usize, mut room: usize
         };
         let (mut added, mut taken) = (String::new(), String::new());
         for _ in 0..count {
-            let (c, left) = (1 + random.below(P - 1), random.word(b'c', b'z', len));
+            let (c, left) = (1 + random.below(p - 1), random.word(b'c', b'z', len));
             let right = random.word(b'c', b'z', len);
             added += &line(item, c, &left, of, &right);
-            taken += &line(item, P - c, &left, of, &right);
+            taken += &line(item, minus(p, c), &left, of, &right);
         }
         if room < added.len() + taken.len() {
             return;

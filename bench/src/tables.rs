@@ -107,7 +107,7 @@ pub fn growing_packages(effort: Effort) {
     println!("check against bytes: the family of the package near every bound\n");
     println!("{SIZES}  {HEADS}  ns/byte");
     for pairs in [1, 2, 4, 8, 12, 16, 20, 24, 28, 31] {
-        let package = near_bounds::package(pairs, 65_536.min(pairs * 65_536 / 31 + 6000));
+        let package = near_bounds::package(65_521, pairs, 65_536.min(pairs * 65_536 / 31 + 6000));
         let answer = accepted("near bounds", &package);
         let checked = check(effort, &package);
         let a_byte = checked[0] * 1e3 / package.len() as f64;

@@ -1,6 +1,7 @@
 //! The sums of a package: refusals 10 to 15.
 
 use crate::block::{compare, Frame, Long, SHORT};
+use crate::field::Field;
 use crate::overlaps::{overlaps, Overlap};
 use crate::package::Package;
 use crate::sums::SumLine;
@@ -38,29 +39,30 @@ fn no_sides() -> Frame {
 }
 
 /// B items with 10 and 11, G items with 10 and 12, then 15, then O items with 14, 10 and 13. Gives the overlap count.
-pub fn judge_sums(package: &Package, working: &mut Working) -> Result<usize, Refusal> {
+pub fn judge_sums<F: Field>(field: F, package: &Package, working: &mut Working) -> Result<usize, Refusal> {
     let mut lines = Lines { sums: &package.sums, line: package.first_line };
     for item in 0..package.basis {
         working.start(&mut no_sides(), package.basis_poly(item));
-        judge_sum(package, working, &mut lines, (0, item), 11, |of| package.relation(of))?;
+        judge_sum(field, package, working, &mut lines, (0, item), 11, |of| package.relation(of))?;
     }
     for item in 0..package.gens {
         working.start(&mut no_sides(), package.relation(item));
-        judge_sum(package, working, &mut lines, (1, item), 12, |of| package.basis_poly(of))?;
+        judge_sum(field, package, working, &mut lines, (1, item), 12, |of| package.basis_poly(of))?;
     }
     let list = overlaps(package);
     if let Some(k) = lines.sums.iter().position(|sum| sum.item as usize > list.len()) {
         return refuse(15, lines.line + k);
     }
     for (item, overlap) in list.iter().enumerate() {
-        judge_overlap(package, working, &mut lines, item, *overlap)?;
+        judge_overlap(field, package, working, &mut lines, item, *overlap)?;
     }
     Ok(list.len())
 }
 
 /// Takes the lines of a B or G item away from its target.
 #[inline(always)]
-fn judge_sum<'a>(
+fn judge_sum<'a, F: Field>(
+    field: F,
     package: &Package,
     working: &mut Working,
     lines: &mut Lines,
@@ -70,7 +72,7 @@ fn judge_sum<'a>(
 ) -> Result<(), Refusal> {
     while let Some(sum) = lines.next(kind, item + 1) {
         let frame = &mut sum.frame(package.bytes);
-        working.add(package.p, package.p - sum.coef, frame, poly(sum.of.into()));
+        working.add(field, field.minus(sum.coef), frame, poly(sum.of.into()));
         if working.len() > MOST {
             return refuse(10, lines.last());
         }
@@ -83,7 +85,8 @@ fn judge_sum<'a>(
 
 /// Takes the lines of an overlap away from its difference.
 #[inline(always)]
-fn judge_overlap(
+fn judge_overlap<F: Field>(
+    field: F,
     package: &Package,
     working: &mut Working,
     lines: &mut Lines,
@@ -96,7 +99,7 @@ fn judge_overlap(
     let mut behind = Frame::new([0; SHORT], 0, second.lead_from(shared), second.lead_len() - shared);
     working.start(&mut behind, first);
     let mut before = Frame::new(first.lead_from(0), first.lead_len() - shared, [0; SHORT], 0);
-    working.add(package.p, package.p - 1, &mut before, second);
+    working.add(field, field.minus(1), &mut before, second);
 
     // The overlap word is left × second leading word, too.
     let top_len = before.put(second.lead_from(0), second.lead_len());
@@ -107,7 +110,7 @@ fn judge_overlap(
         if !is_below(sum, poly, &mut frame, &top, top_len) {
             return refuse(14, lines.last());
         }
-        working.add(package.p, package.p - sum.coef, &mut frame, poly);
+        working.add(field, field.minus(sum.coef), &mut frame, poly);
         if working.len() > MOST {
             return refuse(10, lines.last());
         }

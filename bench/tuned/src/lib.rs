@@ -9,6 +9,7 @@
 
 mod block;
 mod check;
+mod field;
 mod formula;
 mod leads;
 mod number;

@@ -13,6 +13,7 @@ const BASIS: usize = 64;
 /// A package that reads. Relations have the numbers 0 to gens - 1 among all polynomials, the basis those behind.
 pub struct Package<'a> {
     pub bytes: &'a [u8],
+    /// A prime, or 256 for GF(256).
     pub p: u32,
     pub letters: u32,
     pub gens: usize,
@@ -72,7 +73,7 @@ impl<'a> Package<'a> {
         let Some([p, letters, gens, basis]) = shape() else {
             return refuse(2, 2);
         };
-        if p > 65_521 || !is_prime(p) {
+        if p != 256 && (p > 65_521 || !is_prime(p)) {
             return refuse(3, 2);
         }
         (self.p, self.letters, self.gens, self.basis) = (p, letters, gens as usize, basis as usize);

@@ -2,6 +2,7 @@
 
 use crate::block::{Frame, SHORT};
 use crate::check::judge_sums;
+use crate::field::{Byte, Prime};
 use crate::formula::{read_formula, text_len, write_text};
 use crate::leads::{judge_leads, Index};
 use crate::overlaps::{list_len, overlaps, write_list};
@@ -76,7 +77,10 @@ pub fn member(bytes: &[u8], formula: &[u8], budget: u32) -> Answer {
 fn accept(package: &mut Package, working: &mut Working) -> Result<usize, Refusal> {
     package.read()?;
     judge_leads(package)?;
-    judge_sums(package, working)
+    match package.p {
+        256 => judge_sums(Byte, package, working),
+        p => judge_sums(Prime(p), package, working),
+    }
 }
 
 fn list(package: &mut Package, out: &mut [u8]) -> Result<(u64, u64), Refusal> {
@@ -97,5 +101,9 @@ fn reduce(package: &mut Package, working: &mut Working, formula: &[u8], budget: 
     read_formula(formula, package.p, package.letters, &mut terms)?;
     let mut sides = Frame::new([0; SHORT], 0, [0; SHORT], 0);
     working.start(&mut sides, terms.poly(formula, 0, terms.count()));
-    run(package, &Index::new(package), working, budget)
+    let index = Index::new(package);
+    match package.p {
+        256 => run(Byte, package, &index, working, budget),
+        p => run(Prime(p), package, &index, working, budget),
+    }
 }

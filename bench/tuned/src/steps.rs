@@ -1,6 +1,7 @@
 //! Steps one after the other, within a budget: refusals 17 and 18.
 
 use crate::block::{Frame, SHORT};
+use crate::field::Field;
 use crate::leads::Index;
 use crate::package::Package;
 use crate::working::{Working, MOST};
@@ -8,7 +9,13 @@ use crate::{refuse, Refusal};
 
 /// Brings the working formula to its short form; gives the number of steps. A step changes no term before its own, so
 /// the search for the next one goes on there.
-pub fn run(package: &Package, index: &Index, working: &mut Working, budget: u32) -> Result<u32, Refusal> {
+pub fn run<F: Field>(
+    field: F,
+    package: &Package,
+    index: &Index,
+    working: &mut Working,
+    budget: u32,
+) -> Result<u32, Refusal> {
     let mut steps = 0;
     let mut k = 0;
     while k < working.len() {
@@ -27,7 +34,7 @@ pub fn run(package: &Package, index: &Index, working: &mut Working, budget: u32)
         let left = *letters.first_chunk::<SHORT>().expect("24 letters");
         let right = *letters[behind..].first_chunk::<SHORT>().expect("24 letters");
         let mut frame = Frame::new(left, begin, right, len - behind);
-        working.replace(package.p, package.p - coef, &mut frame, poly, k);
+        working.replace(field, field.minus(coef), &mut frame, poly, k);
         steps += 1;
         if working.len() > MOST {
             return refuse(17, steps as usize);

@@ -1,6 +1,7 @@
 //! The working formula.
 
 use crate::block::{compare, Frame, Long, LONG};
+use crate::field::Field;
 use crate::terms::Poly;
 use std::cmp::Ordering;
 
@@ -67,13 +68,14 @@ impl Working {
 
     /// Adds x × left × poly × right.
     #[inline]
-    pub fn add(&mut self, p: u32, x: u32, frame: &mut Frame, poly: Poly) {
+    pub fn add<F: Field>(&mut self, field: F, x: u32, frame: &mut Frame, poly: Poly) {
+        let x = field.factor(x);
         let mut low = 0;
         for term in poly.terms() {
             let len = frame.put(term.word, term.len);
-            let coef = x * term.coef % p;
+            let coef = field.product(x, term.coef);
             low = match self.find(frame.word(), len, low) {
-                Ok(k) => self.add_onto(p, coef, k),
+                Ok(k) => self.add_onto(field, coef, k),
                 Err(k) => {
                     self.put_before(coef, frame.word(), len, k);
                     k + 1
@@ -85,15 +87,16 @@ impl Working {
     /// Takes term k away and adds x × left × poly × right without its leading term, which is what cancels term k.
     /// The next words are below term k, so they are looked for behind it, and the first new one moves into its place.
     #[inline]
-    pub fn replace(&mut self, p: u32, x: u32, frame: &mut Frame, poly: Poly, k: usize) {
+    pub fn replace<F: Field>(&mut self, field: F, x: u32, frame: &mut Frame, poly: Poly, k: usize) {
+        let x = field.factor(x);
         let freed = self.order[k];
         let mut low = k + 1;
         let mut is_open = true;
         for term in poly.terms().skip(1) {
             let len = frame.put(term.word, term.len);
-            let coef = x * term.coef % p;
+            let coef = field.product(x, term.coef);
             low = match self.find(frame.word(), len, low) {
-                Ok(j) => self.add_onto(p, coef, j),
+                Ok(j) => self.add_onto(field, coef, j),
                 Err(j) if is_open => {
                     self.order.copy_within(k + 1..j, k);
                     self.order[j - 1] = freed;
@@ -149,10 +152,9 @@ impl Working {
 
     /// Adds to the coefficient of term k and drops the term where that gives 0; the answer is where the next one stands.
     #[inline(always)]
-    fn add_onto(&mut self, p: u32, coef: u32, k: usize) -> usize {
+    fn add_onto<F: Field>(&mut self, field: F, coef: u32, k: usize) -> usize {
         let place = usize::from(self.order[k]);
-        let sum = coef + self.coefs[place];
-        let sum = if sum < p { sum } else { sum - p };
+        let sum = field.sum(coef, self.coefs[place]);
         if sum == 0 {
             self.drop(k);
             return k;
