@@ -32,7 +32,7 @@ def equal(k, first=1, second=None, down=1, up=1):
 
 
 def which_numbers():
-    """Refusal 3 lets 256 pass, and no other power of a prime."""
+    """Refusal 3 lets 256 pass, and no other higher power of a prime."""
     accepted("P9.2 p 256", NOTHING, 0)
     listed("P9.2 p 256", NOTHING, LIST_NAMES)
     accepted("P9.2 p 256, E with 1 for 6", OVER, 2)

@@ -1,4 +1,4 @@
--- GF(256) is a field, and its product goes through the tables.
+-- The laws of GF(256), and its products read from the tables.
 use mathlib.Core.Path.{_≡_, sym, _∙_, ap}
 use mathlib.Core.Logic.{_≢_}
 use Prim.Native.Nat.{ℕ, zero, suc, _+_, _-_, _%_, _≤_, _<_}

@@ -3,7 +3,7 @@
 use mathlib.Core.Path.{_≡_, refl, sym, _∙_, ap}
 use mathlib.Core.Logic.{_≢_}
 use Prim.Native.Nat.{ℕ, zero, suc, _+_, _*_, _/_, _%_, _<_}
-use native.Mathlib.Nat.{add-comm, zero-add, suc-add, suc-mul, mul-comm}
+use native.Mathlib.Nat.{mod-eq-of-lt, add-comm, zero-add, suc-add, suc-mul, mul-comm}
 use native.Mathlib.Decide.{ℕ-discrete}
 use native.Mathlib.Omega.{arith}
 use lib.Dec.{eqb, eqb→eq}
@@ -32,7 +32,7 @@ unfolding raised
 raised-sum zero a b p q = refl
 raised-sum (suc n) a b p q = ap timesX (raised-sum n a b p q) ∙ x-sum (raised n a) (raised n b) (raised-byte n a p) (raised-byte n b q)
 
-pub raised-raised : (m n a : ℕ) → raised m (raised n a) ≡ raised (m + n) a
+raised-raised : (m n a : ℕ) → raised m (raised n a) ≡ raised (m + n) a
 unfolding raised
 raised-raised zero n a = ap (λ (k : ℕ). raised k a) (sym (zero-add n))
 raised-raised (suc m) n a = ap timesX (raised-raised m n a) ∙ ap (λ (k : ℕ). raised k a) (sym (suc-add m n))
@@ -105,7 +105,7 @@ module _ (power log : ℕ → ℕ) (R : TablesRule power log) where
   pub power-is : (i : ℕ) → i < 255 → power i ≡ raised i 1
   unfolding raised
   power-is zero h = R .first
-  power-is (suc i) h = R .next i (omega arith) ∙ ap timesX (power-is i (omega arith))
+  power-is (suc i) h = ap power (sym (mod-eq-of-lt h)) ∙ R .next i (omega arith) ∙ ap timesX (power-is i (omega arith))
 
   -- every byte but 0 is a power of x
   pub byte-is : (a : ℕ) → 0 < a → a < 256 → a ≡ raised (log a) 1
@@ -114,7 +114,7 @@ module _ (power log : ℕ → ℕ) (R : TablesRule power log) where
   -- x^255 is 1
   whole : raised 255 1 ≡ 1
   unfolding raised
-  whole = ap timesX (sym (power-is 254 (omega arith))) ∙ R .last
+  whole = ap timesX (sym (power-is 254 (omega arith))) ∙ sym (R .next 254 (omega arith)) ∙ R .first
 
   pub past-whole : (n : ℕ) → raised (n + 255) 1 ≡ raised n 1
   past-whole n = sym (raised-raised n 255 1) ∙ ap (raised n) whole
@@ -149,7 +149,7 @@ module _ (power log : ℕ → ℕ) (R : TablesRule power log) where
       go (no m) (no n) =
           product-is a b (some m) p (some n) q ∙ ap (λ (k : ℕ). raised k 1) (add-comm (log a) (log b)) ∙ sym (product-is b a (some n) q (some m) p)
 
-  -- a × b is b's number of products by x, of a
+  -- a × b is a multiplied by x as often as b's logarithm says
   times-is : (a b : ℕ) → a < 256 → 0 < b → b < 256 → byteTimes 8 a b ≡ raised (log b) a
   times-is a b p q r = ap (byteTimes 8 a) (byte-is b q r) ∙ times-raised (log b) a p
 

@@ -1,4 +1,4 @@
--- Sums in GF(256) are those of a vector space over GF(2), and multiplying by x keeps them.
+-- Sums in GF(256) are those of a vector space over GF(2), and x times a sum is the sum of x times each.
 use mathlib.Core.Path.{_≡_, sym, _∙_}
 use Prim.Native.Nat.{ℕ, zero, suc, _+_, _*_, _/_, _%_, _<_}
 use native.Mathlib.Omega.{arith}
@@ -6,7 +6,7 @@ use lib.Arith.{bin-ind}
 use lib.Bits.{xor-zero-l, xor-zero-r, xor-comm, xor-self, xor-lt, xor-shr, xor-mod, xor-add-and}
 use Rattle.field.specs.ByteField.{byteSum, timesX}
 
-pub zero-sum : (a : ℕ) → byteSum 0 a ≡ a
+zero-sum : (a : ℕ) → byteSum 0 a ≡ a
 unfolding byteSum
 zero-sum a = xor-zero-l a
 
@@ -58,7 +58,7 @@ sum-assoc = bin-ind (λ a. (b c : ℕ) → byteSum (byteSum a b) c ≡ byteSum a
         (sum-sum-odd a b c ∙ sym (odd-sum-sum a b c))
 
 -- (a + b) + (c + d) = (a + c) + (b + d)
-pub sum-sums : (a b c d : ℕ) → byteSum (byteSum a b) (byteSum c d) ≡ byteSum (byteSum a c) (byteSum b d)
+sum-sums : (a b c d : ℕ) → byteSum (byteSum a b) (byteSum c d) ≡ byteSum (byteSum a c) (byteSum b d)
 sum-sums a b c d = cc (sum-assoc a b (byteSum c d), sum-assoc b c d, sum-comm b c, sum-assoc c b d, sum-assoc a c (byteSum b d))
 
 sum-double : (a b : ℕ) → byteSum a b * 2 ≡ byteSum (a * 2) (b * 2)

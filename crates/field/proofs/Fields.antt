@@ -1,4 +1,5 @@
--- Which field a number means: GF(256) for 256, GF(p) for any other p; its elements are the numbers below p, and for 256 and every prime it is a field.
+-- Which operations a number p means: those of GF(256) for 256, those modulo p for any other. The elements are the numbers below p; and for 256 and for every
+-- prime it is a field.
 use mathlib.Core.Path.{_≡_, refl, sym, subst}
 use mathlib.Core.Logic.{_⊎_, inl, inr, _≢_}
 use Prim.Native.Nat.{ℕ, _<_}

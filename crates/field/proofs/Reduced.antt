@@ -1,4 +1,4 @@
--- What `fieldOf p` answers at elements: modulo p, without a remainder where one subtraction does; and for 256, bit by bit.
+-- What `fieldOf p` answers at elements: modulo p, without a remainder where one subtraction does; and for 256 sums bit by bit, and the products of `gf256`.
 use mathlib.Core.Path.{_≡_, sym, _∙_, ap}
 use mathlib.Core.Logic.{_≢_}
 use Prim.Native.Nat.{ℕ, _+_, _-_, _*_, _%_, _≤_, _<_}

@@ -6,11 +6,12 @@ use lib.Bits.{bitXor}
 unfoldable pub byteSum : ℕ → ℕ → ℕ
 byteSum a b = bitXor a b
 
--- x × a: every power goes up by one. Bit 7 becomes x^8, and that is x^4 + x^3 + x^2 + 1, the byte 29, since x^8 + x^4 + x^3 + x^2 + 1 is zero.
+-- x × a: each bit moves up one place. A bit that leaves place 7 stands for x^8, and x^8 + x^4 + x^3 + x^2 + 1 counts as zero: x^4 + x^3 + x^2 + 1, the
+-- byte 29, is added in its place.
 unfoldable pub timesX : ℕ → ℕ
 timesX a = byteSum (a % 128 * 2) (a / 128 * 29)
 
--- a × b, of the lowest k bits of a: bit 0 stands for b, bit 1 for x × b, bit 2 for x × x × b, and so on.
+-- The product, where a counts by its lowest k bits: bit 0 of a stands for b, bit 1 for x × b, bit 2 for x × x × b, and so on.
 unfoldable pub byteTimes : ℕ → ℕ → ℕ → ℕ
 byteTimes zero a b = 0
 byteTimes (suc k) a b = byteSum (a % 2 * b) (byteTimes k (a / 2) (timesX b))

