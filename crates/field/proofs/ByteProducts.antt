@@ -3,7 +3,7 @@
 use mathlib.Core.Path.{_≡_, refl, sym, _∙_, ap}
 use mathlib.Core.Logic.{_≢_}
 use Prim.Native.Nat.{ℕ, zero, suc, _+_, _*_, _/_, _%_, _<_}
-use native.Mathlib.Nat.{mod-eq-of-lt, add-comm, zero-add, suc-add, suc-mul, mul-comm}
+use native.Mathlib.Nat.{mod-eq-of-lt, add-comm, zero-add, suc-add, zero-mul, one-mul, mul-zero, suc-mul, mul-comm}
 use native.Mathlib.Decide.{ℕ-discrete}
 use native.Mathlib.Omega.{arith}
 use lib.Dec.{eqb, eqb→eq}
@@ -44,14 +44,8 @@ bit-byte (suc zero) b p q = omega arith
 bit-byte (suc (suc i)) b p q = absurd (omega arith)
 
 bit-x : (i b : ℕ) → i < 2 → i * timesX b ≡ timesX (i * b)
-bit-x zero b p = none (timesX b) ∙ sym (ap timesX (none b) ∙ x-zero)
-  where
-    none : (n : ℕ) → 0 * n ≡ 0
-    none n = omega arith
-bit-x (suc zero) b p = once (timesX b) ∙ sym (ap timesX (once b))
-  where
-    once : (n : ℕ) → 1 * n ≡ n
-    once n = omega arith
+bit-x zero b p = zero-mul (timesX b) ∙ sym (ap timesX (zero-mul b) ∙ x-zero)
+bit-x (suc zero) b p = one-mul (timesX b) ∙ sym (ap timesX (one-mul b))
 bit-x (suc (suc i)) b p = absurd (omega arith)
 
 pub times-byte : (k a b : ℕ) → b < 256 → byteTimes k a b < 256
@@ -63,10 +57,7 @@ times-byte (suc k) a b h =
 pub times-zero : (k a : ℕ) → byteTimes k a 0 ≡ 0
 unfolding byteTimes
 times-zero zero a = refl
-times-zero (suc k) a = rw (x-zero, times-zero k (a / 2), none (a % 2)) (sum-self 0)
-  where
-    none : (n : ℕ) → n * 0 ≡ 0
-    none n = omega arith
+times-zero (suc k) a = rw (x-zero, times-zero k (a / 2), mul-zero (a % 2)) (sum-self 0)
 
 -- a × (x × b) = x × (a × b)
 times-x : (k a b : ℕ) → b < 256 → byteTimes k a (timesX b) ≡ timesX (byteTimes k a b)
@@ -93,10 +84,7 @@ zero-times-raised n = times-raised n 0 (omega arith) ∙ raised-zero n
 -- the n-th power of x^i
 power-raised : (n i : ℕ) → bytePower n (raised i 1) ≡ raised (n * i) 1
 unfolding bytePower raised
-power-raised zero i = ap (λ (k : ℕ). raised k 1) none
-  where
-    none : 0 ≡ 0 * i
-    none = omega arith
+power-raised zero i = ap (λ (k : ℕ). raised k 1) (sym (zero-mul i))
 power-raised (suc n) i =
     ap (byteTimes 8 (raised i 1)) (power-raised n i) ∙ times-raised (n * i) (raised i 1) (raised-byte i 1 (omega arith)) ∙ raised-raised (n * i) i 1
     ∙ ap (λ (k : ℕ). raised k 1) (sym (suc-mul n i))

@@ -1,6 +1,7 @@
 -- Sums in GF(256) are those of a vector space over GF(2), and x times a sum is the sum of x times each.
 use mathlib.Core.Path.{_≡_, sym, _∙_}
 use Prim.Native.Nat.{ℕ, zero, suc, _+_, _*_, _/_, _%_, _<_}
+use native.Mathlib.Nat.{zero-mul}
 use native.Mathlib.Omega.{arith}
 use lib.Arith.{bin-ind}
 use lib.Bits.{xor-zero-l, xor-zero-r, xor-comm, xor-self, xor-lt, xor-shr, xor-mod, xor-add-and}
@@ -71,15 +72,9 @@ sum-double a b =
 
 -- a sum of two bits, times c
 sum-bits-times : (a b c : ℕ) → a < 2 → b < 2 → byteSum a b * c ≡ byteSum (a * c) (b * c)
-sum-bits-times zero b c p q = rw (zero-sum b, none c) (sym (zero-sum (b * c)))
-  where
-    none : (n : ℕ) → 0 * n ≡ 0
-    none n = omega arith
-sum-bits-times (suc zero) zero c p q = rw (sum-zero 1, none c) (sym (sum-zero (1 * c)))
-  where
-    none : (n : ℕ) → 0 * n ≡ 0
-    none n = omega arith
-sum-bits-times (suc zero) (suc zero) c p q = rw (sum-self 1, sum-self (1 * c)) (omega arith)
+sum-bits-times zero b c p q = rw (zero-sum b, zero-mul c) (sym (zero-sum (b * c)))
+sum-bits-times (suc zero) zero c p q = rw (sum-zero 1, zero-mul c) (sym (sum-zero (1 * c)))
+sum-bits-times (suc zero) (suc zero) c p q = rw (sum-self 1, sum-self (1 * c)) (zero-mul c)
 sum-bits-times (suc zero) (suc (suc b)) c p q = absurd (omega arith)
 sum-bits-times (suc (suc a)) b c p q = absurd (omega arith)
 

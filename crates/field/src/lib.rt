@@ -3,4 +3,5 @@
 
 pub mod arithmetic;
 mod byte_field;
+mod byte_tables;
 pub mod prime;

@@ -1,5 +1,5 @@
--- A package is refused by 3 exactly if its first two lines read and the number p in the second means no field.
-use mathlib.Core.Path.{_≡_, refl, sym, _∙_, ap, ap₂, subst}
+-- A package is refused by 3, with place 2, exactly if its first two lines read and the number p in the second means no field.
+use mathlib.Core.Path.{_≡_, refl, sym, _∙_}
 use mathlib.Core.Bool.{Bool, true, false, true≢false}
 use mathlib.Core.Logic.{_≢_}
 use mathlib.Core.List.{List}
@@ -8,74 +8,17 @@ use native.Mathlib.Omega.{arith}
 use lib.Dec.{ltb}
 use lib.ListN.{length}
 use borrow.Author.Tests.{le-ltb, ltb-false}
-use Rattle.package.specs.Answer.{Answer, refused, read, _then_}
+use Rattle.package.specs.Answer.{refused, read, _then_}
 use Rattle.package.specs.Head.{HeadForm, noHead, head, headForm, MeansField, fieldFits, countsFit}
 use Rattle.package.specs.Names.{headNames}
 use Rattle.package.specs.NoField.{NoField}
-use Rattle.package.specs.Package.{packageLimits, namesLine, countsJudged, countsLine, termNamesLine, headLines, termBlock, sumBlock, sized, readWith, readPackage}
+use Rattle.package.specs.Package.{packageLimits, namesLine, CountsBlock, countsJudged, countsLine, termNamesLine, headLines, termBlock, sumBlock, sized, readWith, readPackage}
 use Rattle.package.specs.declared.Head.{Head}
 use Rattle.text.specs.Pieces.{Pieces, final, piece, lines, fields}
 use Rattle.package.proofs.Answers.{refused-not-read, read-injective}
 use Rattle.package.proofs.FieldNumbers.{fits-iff}
 use Rattle.package.proofs.HeadTexts.{names-text}
-use Rattle.package.proofs.ReadingNumbers.{Numbered, names-numbered, term-names-numbered, term-block-numbered, sum-block-numbered, size-numbered}
-
--- A refusal's number and place.
-number : {A : Type 0} → Answer A → ℕ
-number (refused n k) = n
-number (read x) = 0
-
-place : {A : Type 0} → Answer A → ℕ
-place (refused n k) = k
-place (read x) = 0
-
-other-number : {A : Type 0} (n m j k : ℕ) → n ≢ m → _≡_ {A = Answer A} (refused n j) (refused m k) → ⊥
-unfolding number
-other-number n m j k h e = h (ap number e)
-
--- Not 3.
-abbrev pub Other : ℕ → Type 0
-Other n = n ≢ 3
-
-pub refused-3-not : {A : Type 0} (x : Answer A) (k : ℕ) → Numbered Other x → x ≡ refused 3 k → ⊥
-unfolding Numbered
-refused-3-not x k h e = subst (Numbered Other) e h refl
-
--- Where the second part never gives 3, a 3 is the first part's; and where the first never does, it is the second's.
-first-3 : {A B : Type 0} (x : Answer A) (f : A → Answer B) (k : ℕ) → ((a : A) → Numbered Other (f a)) → (x then f) ≡ refused 3 k → x ≡ refused 3 k
-unfolding _then_ number place
-first-3 (refused n j) f k h e = ap₂ refused (ap number e) (ap place e)
-first-3 (read a) f k h e = absurd (refused-3-not (f a) k (h a) e)
-
-second-3 : {A B : Type 0} (x : Answer A) (f : A → Answer B) (k : ℕ) → Numbered Other x → (x then f) ≡ refused 3 k
-    → (a : A) × (x ≡ read a) × (f a ≡ refused 3 k)
-unfolding _then_ Numbered
-second-3 (refused n j) f k h e = absurd (other-number n 3 j k h e)
-second-3 (read a) f k h e = (a, refl, e)
-
--- The second line: 3 is met by p alone.
-record CountsRefused (ps : Pieces) : Type 0 where
-  second : List ℕ
-  rest : Pieces
-  cut : ps ≡ piece second rest
-  counts : Head
-  says : headForm (fields second) ≡ head counts
-  none : MeansField (counts .p) → ⊥
-
-counts-refused : (ps : Pieces) (k : ℕ) → countsLine ps ≡ refused 3 k → CountsRefused ps
-unfolding countsLine countsJudged
-counts-refused (final x) k e = absurd (other-number 2 3 2 k (λ z. omega arith) e)
-counts-refused (piece l ls) k e = by-form (headForm (fields l)) refl
-  where
-    by-tests : (h : Head) → headForm (fields l) ≡ head h → (t u : Bool) → fieldFits (h .p) ≡ t → countsFit h ≡ u → CountsRefused (piece l ls)
-    by-tests h q false u a b =
-        record { second = l; rest = ls; cut = refl; counts = h; says = q; none = λ m. true≢false (sym (fits-iff (h .p) .1 m) ∙ a) }
-    by-tests h q true false a b = absurd (other-number 4 3 2 k (λ z. omega arith) (rw (countsLine, q, countsJudged, a, b) at e))
-    by-tests h q true true a b = absurd (refused-not-read 3 k (record { head = h; rest = ls }) (sym (rw (countsLine, q, countsJudged, a, b) at e)))
-
-    by-form : (f : HeadForm) → headForm (fields l) ≡ f → CountsRefused (piece l ls)
-    by-form noHead q = absurd (other-number 2 3 2 k (λ z. omega arith) (rw (countsLine, q) at e))
-    by-form (head h) q = by-tests h q (fieldFits (h .p)) (countsFit h) refl refl
+use Rattle.package.proofs.ReadingNumbers.{Numbered, then-numbered, names-numbered, term-names-numbered, term-block-numbered, sum-block-numbered, size-numbered}
 
 sized-read : (bytes : List ℕ) → length bytes ≤ 65536 → sized bytes ≡ read (lines bytes)
 unfolding sized
@@ -89,40 +32,64 @@ read-sized bytes ls e = go (ltb 65536 (length bytes)) refl
     go true q = absurd (refused-not-read 1 0 ls (rw (sized, q) at e))
     go false q = (ltb-false 65536 (length bytes) q, read-injective (lines bytes) ls (rw (sized, q) at e))
 
-pub no-field : (bytes : List ℕ) (k : ℕ) → readPackage bytes ≡ refused 3 k → NoField bytes
-unfolding readPackage readWith headLines
-no-field bytes k e =
-    let a = first-3 (sized bytes then headLines then termBlock packageLimits) (sumBlock packageLimits) k (sum-block-numbered Other two five six packageLimits) e in
-    let b = first-3 (sized bytes then headLines) (termBlock packageLimits) k (term-block-numbered Other two five six seven packageLimits) a in
-    let (ls, s, c) = second-3 (sized bytes) headLines k (size-numbered Other one bytes) b in
-    let d = first-3 (namesLine headNames 1 ls then countsLine) termNamesLine k (term-names-numbered Other two) c in
-    let (ms, x, y) = second-3 (namesLine headNames 1 ls) countsLine k (names-numbered Other two headNames 1 ls) d in
-    let r = counts-refused ms k y in
-    let (size, z) = read-sized bytes ls s in
-    record {
-      size = size;
-      second = r .second;
-      rest = r .rest;
-      cut = z ∙ names-text headNames 1 ls ms x ∙ ap (piece headNames) (r .cut);
-      counts = r .counts;
-      says = r .says;
-      none = r .none;
-    }
-  where
-    one : Other 1
-    one z = omega arith
+module _ (bytes : List ℕ) where
+  -- A number that is 3 only where p means no field.
+  abbrev pub OnlyNoField : ℕ → Type 0
+  OnlyNoField n = n ≡ 3 → NoField bytes
 
-    two : Other 2
-    two z = omega arith
+  pub other : (n : ℕ) → n ≢ 3 → OnlyNoField n
+  other n h e = absurd (h e)
 
-    five : Other 5
-    five z = omega arith
+  -- The second line: 3 is met by p alone.
+  counts-3 : (ps : Pieces) → length bytes ≤ 65536 → lines bytes ≡ piece headNames ps → Numbered OnlyNoField (countsLine ps)
+  unfolding Numbered countsLine countsJudged
+  counts-3 (final x) size cut = other 2 (λ e. omega arith)
+  counts-3 (piece l ls) size cut = by-form (headForm (fields l)) refl
+    where
+      by-tests : (h : Head) → headForm (fields l) ≡ head h → (t u : Bool) → fieldFits (h .p) ≡ t
+          → Numbered OnlyNoField {A = CountsBlock} (elim t [ false ↦ refused 3 2 | true ↦ elim u [ false ↦ refused 4 2 | true ↦ read (record { head = h; rest = ls }) ] ])
+      by-tests h q false u a = λ e. record {
+        size = size;
+        second = l;
+        rest = ls;
+        cut = cut;
+        counts = h;
+        says = q;
+        none = λ m. true≢false (sym (fits-iff (h .p) .1 m) ∙ a);
+      }
+      by-tests h q true false a = other 4 (λ e. omega arith)
+      by-tests h q true true a = tt
 
-    six : Other 6
-    six z = omega arith
+      by-form : (f : HeadForm) → headForm (fields l) ≡ f → Numbered OnlyNoField (countsJudged f ls)
+      by-form noHead q = other 2 (λ e. omega arith)
+      by-form (head h) q = by-tests h q (fieldFits (h .p)) (countsFit h) refl
 
-    seven : Other 7
-    seven z = omega arith
+  head-lines-3 : (ls : Pieces) → sized bytes ≡ read ls → Numbered OnlyNoField (headLines ls)
+  unfolding headLines
+  head-lines-3 ls s =
+      let (size, cut) = read-sized bytes ls s in
+      then-numbered OnlyNoField (namesLine headNames 1 ls then countsLine) termNamesLine
+      (then-numbered OnlyNoField (namesLine headNames 1 ls) countsLine (names-numbered OnlyNoField (other 2 (λ e. omega arith)) headNames 1 ls)
+      (λ ms x. counts-3 ms size (cut ∙ names-text headNames 1 ls ms x)))
+      (λ c _. term-names-numbered OnlyNoField (other 2 (λ e. omega arith)) c)
+
+  pub read-3 : Numbered OnlyNoField (readPackage bytes)
+  unfolding readPackage readWith
+  read-3 =
+      then-numbered OnlyNoField (sized bytes then headLines then termBlock packageLimits) (sumBlock packageLimits)
+      (then-numbered OnlyNoField (sized bytes then headLines) (termBlock packageLimits)
+      (then-numbered OnlyNoField (sized bytes) headLines (size-numbered OnlyNoField (other 1 (λ e. omega arith)) bytes) head-lines-3)
+      (λ b _. term-block-numbered OnlyNoField two five six (other 7 (λ e. omega arith)) packageLimits b))
+      (λ t _. sum-block-numbered OnlyNoField two five six packageLimits t)
+    where
+      two : OnlyNoField 2
+      two = other 2 (λ e. omega arith)
+
+      five : OnlyNoField 5
+      five = other 5 (λ e. omega arith)
+
+      six : OnlyNoField 6
+      six = other 6 (λ e. omega arith)
 
 -- The two first lines, where the second has the counts h and p means no field.
 head-3 : (second : List ℕ) (rest : Pieces) (h : Head) → headForm (fields second) ≡ head h → fieldFits (h .p) ≡ false

@@ -1,5 +1,6 @@
 -- A package that does not read is refused by one of the numbers 1 to 7. Each law says that a part's refusal has every property Q that the numbers of that part
 -- have.
+use mathlib.Core.Path.{_≡_, refl}
 use mathlib.Core.Bool.{Bool, true, false}
 use mathlib.Core.List.{List, [], _∷_, _++_}
 use Prim.Native.Nat.{ℕ, suc, _≤_}
@@ -22,10 +23,10 @@ module _ (Q : ℕ → Type 0) where
   Numbered (refused n k) = Q n
   Numbered (read x) = Unit {0}
 
-  then-numbered : {A B : Type 0} (x : Answer A) (f : A → Answer B) → Numbered x → ((a : A) → Numbered (f a)) → Numbered (x then f)
+  pub then-numbered : {A B : Type 0} (x : Answer A) (f : A → Answer B) → Numbered x → ((a : A) → x ≡ read a → Numbered (f a)) → Numbered (x then f)
   unfolding Numbered _then_
   then-numbered (refused n k) f p q = p
-  then-numbered (read a) f p q = q a
+  then-numbered (read a) f p q = q a refl
 
   -- The head lines.
   pub names-numbered : Q 2 → (names : List ℕ) (n : ℕ) (ls : Pieces) → Numbered (namesLine names n ls)
@@ -56,14 +57,14 @@ module _ (Q : ℕ → Type 0) where
   unfolding Numbered termNamesLine
   term-names-numbered two c =
       then-numbered (namesLine termNames 3 (c .rest)) (λ (ms : Pieces). read (record { head = c .head; line = firstTerm; rest = ms }))
-      (names-numbered two termNames 3 (c .rest)) (λ ms. tt)
+      (names-numbered two termNames 3 (c .rest)) (λ ms _. tt)
 
   head-numbered : Q 2 → Q 3 → Q 4 → (ls : Pieces) → Numbered (headLines ls)
   unfolding headLines
   head-numbered two three four ls =
       then-numbered (namesLine headNames 1 ls then countsLine) termNamesLine
-      (then-numbered (namesLine headNames 1 ls) countsLine (names-numbered two headNames 1 ls) (line-numbered two three four))
-      (term-names-numbered two)
+      (then-numbered (namesLine headNames 1 ls) countsLine (names-numbered two headNames 1 ls) (λ ms _. line-numbered two three four ms))
+      (λ c _. term-names-numbered two c)
 
   -- Block 2.
   unfoldable TermNumbered : TermVerdict → Type 0
@@ -136,7 +137,7 @@ module _ (Q : ℕ → Type 0) where
   unfolding Numbered sumBlock
   sum-block-numbered two five six m t =
       then-numbered (block3 (t .head) m 0 0 (t .line) (t .rest)) (λ _. read (record { head = t .head; terms = t .terms; sums = sumsOf (t .line) (t .rest) }))
-      (sums-numbered two five six (t .head) m (t .rest) 0 0 (t .line)) (λ _. tt)
+      (sums-numbered two five six (t .head) m (t .rest) 0 0 (t .line)) (λ _ _. tt)
 
   -- The whole.
   pub size-numbered : Q 1 → (bytes : List ℕ) → Numbered (sized bytes)
@@ -152,9 +153,9 @@ module _ (Q : ℕ → Type 0) where
   read-numbered one two three four five six seven bytes =
       then-numbered (sized bytes then headLines then termBlock packageLimits) (sumBlock packageLimits)
       (then-numbered (sized bytes then headLines) (termBlock packageLimits)
-      (then-numbered (sized bytes) headLines (size-numbered one bytes) (head-numbered two three four))
-      (term-block-numbered two five six seven packageLimits))
-      (sum-block-numbered two five six packageLimits)
+      (then-numbered (sized bytes) headLines (size-numbered one bytes) (λ ls _. head-numbered two three four ls))
+      (λ b _. term-block-numbered two five six seven packageLimits b))
+      (λ t _. sum-block-numbered two five six packageLimits t)
 
 -- One of the numbers 1 to 7.
 abbrev pub Known : ℕ → Type 0

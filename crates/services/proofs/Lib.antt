@@ -1,5 +1,6 @@
 -- The demands on the services, as theorems about what they answer, and 01's examples.
 pub mod VerdictNumbers
+pub mod AnswerNumbers
 pub mod ServiceNumbers
 pub mod FieldRefusals
 pub mod Refusals

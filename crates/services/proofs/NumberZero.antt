@@ -23,7 +23,8 @@ use Rattle.acceptance.specs.Reduction.{formulaLimits, Reduction, refusedBy, sho
 use Rattle.services.specs.Services.{listable, checkAnswer, checkedAs, wordsListed, listAnswer, listedAs, shortAnswer, shortenedAs, memberAnswer, membershipAs}
 use Rattle.services.specs.Demands.{Between, AcceptedAs, ReadAs}
 use Rattle.package.proofs.ReadingNumbers.{Numbered}
-use Rattle.services.proofs.ServiceNumbers.{listable-number, ReductionNumber, reduction-number}
+use Rattle.services.proofs.AnswerNumbers.{ReductionNumber}
+use Rattle.services.proofs.ServiceNumbers.{listable-number, reduction-number}
 
 -- What is judged to be read was read.
 judged-read : (judge : Package → Verdict) (o : Outcome) (P : Package) → judgedBy judge o ≡ read P → o ≡ read P
