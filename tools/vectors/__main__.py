@@ -1,7 +1,7 @@
 """Writes the stored cases of the program `vectors`: crates/vectors/data/cases, and the answers it must print, crates/vectors/stdout.
 
 Run at the top of the repository: python3 tools/vectors. Every answer stands here as documents 01 and 02 give it (rows A1 to
-A45 and P9.1 on of docs/DECISIONS.md); none is taken from a run of the program.
+A45 and those of document 02's requests, docs/DECISIONS.md); none is taken from a run of the program.
 """
 import basis
 import cases
@@ -9,11 +9,12 @@ import formulas
 import gf256
 import listing
 import order
+import places
 import reading
 import real
 import sums
 import terms
 
-for part in (reading, basis, sums, terms, formulas, order, listing, real, gf256):
+for part in (reading, basis, sums, terms, formulas, order, listing, real, gf256, places):
     part.cases()
 cases.write()

@@ -12,11 +12,14 @@ use Rattle.printing.proofs.NumbersLine.{numbers-length}
 use Rattle.lending.specs.Kept.{countKept}
 use Rattle.cases.specs.CaseTexts.{outputText, programText}
 
--- Three, four and five numbers of 64 bits in a line.
+-- Two to five numbers of 64 bits in a line.
+pub two-numbers-length : (a b : ℕ) → a < 2 ^ 64 → b < 2 ^ 64 → length (numbersLine (a ∷ b ∷ [])) ≤ 43
+unfolding numbersLine
+two-numbers-length a b x y = omega (arith, numbers-length a (b ∷ []) x, numbers-length b [] y)
+
 module _ (a b c : ℕ) (x : a < 2 ^ 64) (y : b < 2 ^ 64) (z : c < 2 ^ 64) where
   pub three-numbers-length : length (numbersLine (a ∷ b ∷ c ∷ [])) ≤ 64
-  unfolding numbersLine
-  three-numbers-length = omega (arith, numbers-length a (b ∷ c ∷ []) x, numbers-length b (c ∷ []) y, numbers-length c [] z)
+  three-numbers-length = omega (arith, numbers-length a (b ∷ c ∷ []) x, two-numbers-length b c y z)
 
   pub four-numbers-length : (n : ℕ) → n < 2 ^ 64 → length (numbersLine (n ∷ a ∷ b ∷ c ∷ [])) ≤ 85
   four-numbers-length n h = omega (arith, numbers-length n (a ∷ b ∷ c ∷ []) h, three-numbers-length)

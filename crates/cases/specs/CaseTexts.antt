@@ -1,10 +1,12 @@
 -- What is printed for a case: the first 51 bytes of its head line, which are the service's letter and the case's name, and then what the
--- service answered, its numbers in a line and the bytes that it wrote.
-use mathlib.Core.Bool.{true, false}
+-- service answered, its numbers in a line and the bytes that it wrote. One letter is no service's: it asks whether a word stands in another.
+use mathlib.Core.Bool.{Bool, true, false}
 use mathlib.Core.List.{List, [], _∷_, _++_}
 use Prim.Native.Nat.{ℕ}
 use lib.Dec.{eqb}
 use lib.ListN.{getD, take, drop, replicate}
+use Rattle.words.specs.Word.{Word}
+use Rattle.words.specs.Place.{standsAt, comparedAt}
 use Rattle.text.specs.Ascii.{ascii}
 use Rattle.printing.specs.Printed.{numbersLine, printedText}
 use Rattle.lending.specs.Kept.{countKept}
@@ -52,10 +54,20 @@ unfoldable pub programText : List ℕ → List ℕ
 unfolding printedText
 programText bytes = ascii " prints\n" ++ printedText bytes
 
--- What the service answers that the head line's first byte says: C the check, L listing, S the short form, M membership, any other byte
--- the program.
+-- 1 for yes, 0 for no.
+unfoldable pub yesNumber : Bool → ℕ
+yesNumber true = 1
+yesNumber false = 0
+
+-- A word at a place of another: whether it stands there, and how many letters are compared.
+unfoldable pub standingText : Word → Word → ℕ → List ℕ
+unfolding numbersLine yesNumber standsAt comparedAt
+standingText b w at = numbersLine (yesNumber (standsAt b w at) ∷ comparedAt b w at ∷ [])
+
+-- What the service answers that the head line's first byte says: C the check, L listing, S the short form, M membership; for W, whether the
+-- package's bytes stand in the formula's at the place that the budget says; for any other byte, the program.
 unfoldable pub answerText : List ℕ → List ℕ → List ℕ → List ℕ
-unfolding checkedText listedText shortenedText membershipText programText checkedAs membershipAs roomSaid budgetSaid
+unfolding checkedText listedText shortenedText membershipText standingText programText checkedAs membershipAs roomSaid budgetSaid
 answerText head bytes text =
     elim (eqb (getD head 0 0) 67) [
       | true ↦ checkedText (checkedAs bytes)
@@ -65,7 +77,10 @@ answerText head bytes text =
           | true ↦ shortenedText bytes text (budgetSaid head) (roomSaid head)
           | false ↦ elim (eqb (getD head 0 0) 77) [
             | true ↦ membershipText (membershipAs bytes text (budgetSaid head))
-            | false ↦ programText bytes
+            | false ↦ elim (eqb (getD head 0 0) 87) [
+              | true ↦ standingText bytes text (budgetSaid head)
+              | false ↦ programText bytes
+            ]
           ]
         ]
       ]

@@ -2,6 +2,7 @@
 
 use crate::head;
 use crate::outputs;
+use crate::standing;
 use printing::print_into;
 use printing::put_numbers_line;
 use textwriting::write::put_bytes;
@@ -48,7 +49,7 @@ fn put_printed(text: &mut [u8], at: usize, package: &[u8]) -> usize
     put_bytes(text, end, &out[..n])
 }
 
-// The answer of the service that the head line's first byte says.
+// The answer that the head line's first byte asks for.
 fn put_answer(text: &mut [u8], at: usize, line: &[u8], package: &[u8], formula: &[u8]) -> usize
     requires { ⌜ length (now line) ≡ 81 ⌝ }
     requires { ⌜ at + 65642 ≤ length (now text) ⌝ }
@@ -67,6 +68,9 @@ fn put_answer(text: &mut [u8], at: usize, line: &[u8], package: &[u8], formula: 
     }
     if service == b'M' {
         return put_membership(text, at, line, package, formula);
+    }
+    if service == b'W' {
+        return standing::put_standing(text, at, line, package, formula);
     }
     put_printed(text, at, package)
 }

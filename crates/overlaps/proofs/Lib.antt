@@ -3,4 +3,5 @@
 pub mod Listed
 pub mod Certification
 pub mod Positions
+pub mod PassedOver
 pub mod Searching

@@ -1,5 +1,4 @@
 -- Places in the order of the overlaps, and what is left of their list from a place on.
-use mathlib.Core.Path.{_≡_}
 use mathlib.Core.Bool.{true, false}
 use mathlib.Core.List.{List, [], _∷_, _++_}
 use Prim.Native.Nat.{ℕ, zero, suc, _+_, _-_, _*_, _≤_, _<_, min}
@@ -8,6 +7,7 @@ use lib.ListN.{length, getD, drop}
 use Rattle.words.specs.declared.Found.{Found}
 use Rattle.words.specs.declared.Found.the-variants.{At, Nowhere}
 use Rattle.words.specs.Word.{Word}
+use Rattle.wordplaces.specs.TwoLetters.{twoSame}
 use Rattle.overlaps.specs.declared.Cursor.{Cursor}
 use Rattle.overlaps.specs.declared.Next.{Next}
 use Rattle.overlaps.specs.declared.Next.the-variants.{Overlap, Done}
@@ -23,6 +23,13 @@ nextShared u v s (suc k) = elim (shares u v s) [ true ↦ At s | false ↦ nextS
 -- The least number of letters from s on, below both lengths, that the end of u and the beginning of v share.
 abbrev pub sharedBy : Word → Word → ℕ → Found
 sharedBy u v s = nextShared u v s (min (length u) (length v) - s)
+
+-- The least number from k on, among n numbers, where v's letters k - 2 and k - 1 are u's last two; the number behind them where there is none.
+-- Where they are not, k letters are not shared.
+unfoldable pub nextAgreeing : Word → Word → ℕ → ℕ → ℕ
+unfolding twoSame
+nextAgreeing u v k zero = k
+nextAgreeing u v k (suc n) = elim (twoSame v (k - 2) u (length u - 2)) [ true ↦ k | false ↦ nextAgreeing u v (suc k) n ]
 
 -- The overlaps from a place on: those of its two words that share so many letters or more, those of the first with the words behind the second,
 -- and those of the words behind the first.

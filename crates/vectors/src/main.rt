@@ -1,6 +1,6 @@
 // Runs the stored cases of its file data/cases and prints each answer. The file holds one case behind the other: a head line of 81 bytes,
-// the package's bytes, the formula's bytes, and one byte 10. The file 'stdout' has the answers that document 01 gives, written down
-// beforehand.
+// the package's bytes, the formula's bytes, and one byte 10. The file 'stdout' has the answers that documents 01 and 02 give, written
+// down beforehand.
 
 mod run;
 

@@ -1,1 +1,3 @@
 pub mod PlaceTurns
+pub mod TwoLetters
+pub mod ComparingTurns

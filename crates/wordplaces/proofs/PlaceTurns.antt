@@ -1,20 +1,18 @@
--- One law for each way through a search of one word in another: what is left of the words says what the whole words say.
+-- One law for each way through the search for the leftmost place: what is left of the word says what the whole word says.
 use mathlib.Core.Path.{_≡_, refl, sym, _∙_}
 use mathlib.Core.Bool.{Bool, true, false, true≢false}
 use mathlib.Core.List.{[], _∷_}
-use Prim.Native.Nat.{ℕ, zero, suc, _+_, _-_, _≤_, _<_}
-use native.Mathlib.Nat.{add-zero}
+use Prim.Native.Nat.{ℕ, zero, suc, _+_, _≤_, _<_}
 use native.Mathlib.Numerals.{add-one}
 use native.Mathlib.Omega.{arith}
 use lib.Dec.{eqb}
-use lib.ListN.{length, getD, drop, length-drop, drop-of-length-le}
+use lib.ListN.{length, drop, length-drop}
 use lib.Seq.{drop-cons}
-use borrow.Author.Tests.{eq-eqb, ne-eqb}
 use Rattle.words.specs.declared.Found.the-variants.{At, Nowhere}
 use Rattle.words.specs.Word.{Word}
 use Rattle.words.specs.Place.{begins, standsAt, leftmostFrom, leftmost}
 
-pub begins-long : (b w : Word) → length w < length b → begins b w ≡ false
+begins-long : (b w : Word) → length w < length b → begins b w ≡ false
 unfolding begins
 begins-long [] w h = absurd (omega arith)
 begins-long (x ∷ b) [] h = refl
@@ -24,39 +22,11 @@ begins-long (x ∷ b) (y ∷ w) h = go (eqb x y) (begins-long b w (omega arith))
     go true e = e
     go false e = refl
 
-module _ (b w : Word) (at i : ℕ) where
-  module _ (h : i < length b) (k : at + i < length w) where
-    pub begins-differs : (getD b i 0 ≡ getD w (at + i) 0 → ⊥) → begins (drop i b) (drop (at + i) w) ≡ false
-    unfolding begins
-    begins-differs n = rw (drop-cons b i 0 h, drop-cons w (at + i) 0 k, begins, ne-eqb (getD b i 0) (getD w (at + i) 0) n)
-
-    pub begins-agrees : getD b i 0 ≡ getD w (at + i) 0 → begins (drop (i + 1) b) (drop (at + (i + 1)) w) ≡ begins (drop i b) (drop (at + i) w)
-    unfolding begins
-    begins-agrees e =
-        let n : at + (i + 1) ≡ suc (at + i) = omega arith in
-        rw (n, drop-cons b i 0 h, drop-cons w (at + i) 0 k, begins, eq-eqb (getD b i 0) (getD w (at + i) 0) e, add-one i)
-
-  pub begins-end : length b ≤ i → begins (drop i b) (drop (at + i) w) ≡ true
-  unfolding begins
-  begins-end h = rw (drop-of-length-le b h)
-
 pub stands-inside : (b w : Word) (i : ℕ) → i ≤ length w → standsAt b w i ≡ begins b (drop i w)
 unfolding standsAt
 stands-inside b w zero h = refl
 stands-inside b [] (suc i) h = absurd (omega arith)
 stands-inside b (a ∷ w) (suc i) h = stands-inside b w i (omega arith)
-
-pub stands-start : (b w : Word) (i : ℕ) → i ≤ length w → begins b (drop (i + 0) w) ≡ standsAt b w i
-stands-start b w i h = rw (add-zero i) (sym (stands-inside b w i h))
-
-pub stands-outside : (b w : Word) (i : ℕ) → length w < i → standsAt b w i ≡ false
-unfolding standsAt
-stands-outside b w zero h = absurd (omega arith)
-stands-outside b [] (suc i) h = refl
-stands-outside b (a ∷ w) (suc i) h = stands-outside b w i (omega arith)
-
-pub stands-long : (b w : Word) (i : ℕ) → i ≤ length w → length w - i < length b → standsAt b w i ≡ false
-stands-long b w i h k = stands-inside b w i h ∙ begins-long b (drop i w) (rw (length-drop i w) k)
 
 leftmost-short : (b w : Word) (i : ℕ) → length w < length b → leftmostFrom b w i ≡ Nowhere
 unfolding leftmostFrom

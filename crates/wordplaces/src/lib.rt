@@ -1,3 +1,4 @@
 // Where a word stands in another.
 
 pub mod place;
+pub mod two_letters;

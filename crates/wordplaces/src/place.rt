@@ -1,27 +1,59 @@
 // Where a word stands in another: w is left × b × right, and the place is the number of left's letters.
 
+use crate::two_letters::two_same;
 use words::Found;
 ghost use mathlib.Core.Path.{_≡_};
-ghost use Rattle.words.specs.Place.{standsAt, leftmost};
+ghost use mathlib.Core.Bool.{false};
+ghost use Rattle.words.specs.Place.{standsAt, comparedAt, leftmost};
 
-// Whether b stands in w at the place.
-pub fn stands_at(b: &[u8], w: &[u8], at: usize) -> bool
-    ensures { λ r. ⌜ r ≡ standsAt (now (b .entry)) (now (w .entry)) at ⌝ }
+// Whether a word stands at a place of another, and how many letters a comparison one by one from the end takes. (C reads it in the
+// archive of crate trials.)
+#[repr(C)]
+pub struct Stood {
+    pub stands: bool,
+    pub compared: usize,
+}
+
+// A no, after so many letters.
+fn not_standing(compared: usize) -> Stood
+    ensures { λ r. ⌜ (r .stands ≡ false) × (r .compared ≡ compared) ⌝ }
 {
-    if w.len() < at {
-        return false;
+    Stood {
+        stands: false,
+        compared: compared,
     }
-    if w.len() - at < b.len() {
-        return false;
+}
+
+// Whether b stands in w at the place, compared from b's last letter back to the first that differs: two letters at once, as long as there
+// are two. Where the two differ the later one is looked at first.
+pub fn stands_at(b: &[u8], w: &[u8], at: usize) -> Stood
+    ensures { λ r. ⌜ r .stands ≡ standsAt (now (b .entry)) (now (w .entry)) at ⌝ }
+    ensures { λ r. ⌜ r .compared ≡ comparedAt (now (b .entry)) (now (w .entry)) at ⌝ }
+{
+    if w.len() < at || w.len() - at < b.len() {
+        return not_standing(0);
     }
-    let mut i = 0;
-    while i < b.len() {
-        if b[i] != w[at + i] {
-            return false;
+    let mut n = b.len();
+    while n > 1 {
+        let k = n - 2;
+        if !two_same(b, k, w, at + k) {
+            let i = n - 1;
+            if b[i] != w[at + i] {
+                return not_standing(b.len() - i);
+            }
+            return not_standing(b.len() - k);
         }
-        i += 1;
+        n = k;
     }
-    true
+    if n > 0 {
+        if b[0] != w[at] {
+            return not_standing(b.len());
+        }
+    }
+    Stood {
+        stands: true,
+        compared: b.len(),
+    }
 }
 
 // The leftmost place of b in w.
@@ -34,7 +66,8 @@ pub fn leftmost_place(b: &[u8], w: &[u8]) -> Found
     let last = w.len() - b.len();
     let mut at = 0;
     while at <= last {
-        if stands_at(b, w, at) {
+        let stood = stands_at(b, w, at);
+        if stood.stands {
             return Found::At(at);
         }
         at += 1;

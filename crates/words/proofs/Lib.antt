@@ -4,4 +4,6 @@ pub mod Lexicographic
 pub mod WeightedOrder
 pub mod WordOrder
 pub mod Standing
+pub mod Comparing
+pub mod ComparedExamples
 pub mod LaidWords

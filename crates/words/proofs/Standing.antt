@@ -6,7 +6,8 @@ use mathlib.Core.List.{[], _∷_, _++_}
 use Prim.Native.Nat.{ℕ, zero, suc, _+_, _<_, _≤_}
 use native.Mathlib.Omega.{arith}
 use lib.Dec.{eqb}
-use lib.ListN.{length}
+use lib.ListN.{length, getD, take, drop, length-append, take-append-drop, List·getD-append}
+use lib.Seq.{length-take-le, getD-append-add}
 use borrow.Author.Tests.{eq-eqb, eqb-true}
 use Rattle.words.specs.declared.Found.{Found}
 use Rattle.words.specs.declared.Found.the-variants.{At, Nowhere}
@@ -49,6 +50,30 @@ true-at-length b (a ∷ l) r = true-at-length b l r
 pub stands-iff : (b w : Word) (i : ℕ) → (standsAt b w i ≡ true) ↔ Stands b w i
 stands-iff b w i = (stands-of-true b w i, λ s. rw (← s .fits, ← s .place) (true-at-length b (s .left) (s .right)))
 
+not-stands : (b w : Word) (i : ℕ) → standsAt b w i ≡ false → Stands b w i → ⊥
+not-stands b w i e s = true≢false (sym (stands-iff b w i .1 s) ∙ e)
+
+pub stands-not : (b w : Word) (i : ℕ) → (Stands b w i → ⊥) → standsAt b w i ≡ false
+stands-not b w i n = go (standsAt b w i) refl
+  where
+    go : (t : Bool) → standsAt b w i ≡ t → t ≡ false
+    go true e = absurd (n (stands-iff b w i .0 e))
+    go false e = refl
+
+-- a word that stands ends no later than the other, and its letters are the other's
+module _ (b w : Word) (i : ℕ) (s : Stands b w i) where
+  pub stands-ends : i + length b ≤ length w
+  stands-ends =
+      omega (arith, s .place, ap length (s .fits), length-append (s .left) (b ++ s .right), length-append b (s .right))
+
+  pub stands-letter : (j : ℕ) → j < length b → getD w (i + j) 0 ≡ getD b j 0
+  stands-letter j h =
+      rw (← s .fits, ← s .place, getD-append-add (s .left) (b ++ s .right) j 0) (List·getD-append b (s .right) 0 j h)
+
+-- the empty word stands at every place from 0 to the length
+pub stands-empty : (w : Word) (i : ℕ) → i ≤ length w → Stands [] w i
+stands-empty w i h = record { left = take i w; right = drop i w; place = length-take-le i w h; fits = take-append-drop i w }
+
 -- the answer of the search from place k on
 First : Word → Word → ℕ → Found → Type 0
 First b w k Nowhere = (i : ℕ) → standsAt b w i ≡ false
@@ -82,9 +107,6 @@ first-from b (a ∷ w) k = go (begins b (a ∷ w)) refl (leftmostFrom b w (suc k
     go : (t : Bool) → begins b (a ∷ w) ≡ t → (o : Found) → First b w (suc k) o → First b (a ∷ w) k (elim t [ true ↦ At k | false ↦ o ])
     go true e o f = (0, omega arith, e, λ j h. absurd (omega arith))
     go false e o f = moved e o f
-
-not-stands : (b w : Word) (i : ℕ) → standsAt b w i ≡ false → Stands b w i → ⊥
-not-stands b w i e s = true≢false (sym (stands-iff b w i .1 s) ∙ e)
 
 -- an answer is the leftmost place where b stands in w
 pub leftmost-at : (b w : Word) (i : ℕ) → leftmost b w ≡ At i → Stands b w i × ((j : ℕ) → j < i → Stands b w j → ⊥)

@@ -1,5 +1,5 @@
 -- `put_answer`: each letter's text.
-use Rattle.cases.proofs.AnswerTexts.{answer-checked, answer-listed, answer-shortened, answer-membership, answer-program, stored-as}
+use Rattle.cases.proofs.AnswerTexts.{answer-checked, answer-listed, answer-shortened, answer-membership, answer-standing, answer-program, stored-as}
 use borrow.Author.Needs.{needs}
 use Rattle.cases.proofs.answers.put_answer.Statement.{statement}
 use Rattle.cases.proofs.answers.put_answer.Tie as tie
@@ -55,8 +55,8 @@ returns-4 c =
     let s = p .before .before .before .before .before .before .before .before .before .before .before in
     stored-as _ _ _ _ _ _ (answer-membership (s .args .line .now) (s .args .«package» .now) (s .args .formula .now) (search needs) (search needs) (search needs) (search needs)) (p .put-membership .ensures)
 
-put-printed-requires : tie.Need-put-printed-requires
-put-printed-requires c κs = search needs
+put-standing-requires : tie.Need-put-standing-requires
+put-standing-requires c κs = search needs
 
 same-length-5 : tie.Need-same-length-5
 same-length-5 c = search needs
@@ -64,8 +64,20 @@ same-length-5 c = search needs
 returns-5 : tie.Need-returns-5
 returns-5 c =
     let p = c .before .before in
-    let s = p .before .before .before .before .before .before .before .before .before .before .before in
-    stored-as _ _ _ _ _ _ (answer-program (s .args .line .now) (s .args .«package» .now) (s .args .formula .now) (search needs) (search needs) (search needs) (search needs)) (p .put-printed .ensures)
+    let s = p .before .before .before .before .before .before .before .before .before .before .before .before in
+    stored-as _ _ _ _ _ _ (answer-standing (s .args .line .now) (s .args .«package» .now) (s .args .formula .now) (search needs) (search needs) (search needs) (search needs) (search needs)) (p .put-standing .ensures)
+
+put-printed-requires : tie.Need-put-printed-requires
+put-printed-requires c κs = search needs
+
+same-length-6 : tie.Need-same-length-6
+same-length-6 c = search needs
+
+returns-6 : tie.Need-returns-6
+returns-6 c =
+    let p = c .before .before in
+    let s = p .before .before .before .before .before .before .before .before .before .before .before .before in
+    stored-as _ _ _ _ _ _ (answer-program (s .args .line .now) (s .args .«package» .now) (s .args .formula .now) (search needs) (search needs) (search needs) (search needs) (search needs)) (p .put-printed .ensures)
 
 pub put-answer-spec : {M : Type 1} → statement M
 put-answer-spec =
@@ -84,6 +96,9 @@ put-answer-spec =
     put-membership-requires
     same-length-4
     returns-4
-    put-printed-requires
+    put-standing-requires
     same-length-5
-    returns-5)
+    returns-5
+    put-printed-requires
+    same-length-6
+    returns-6)

@@ -23,7 +23,7 @@ stands-at-requires : tie.Need-stands-at-requires
 stands-at-requires c κs = search needs
 
 returns : tie.Need-returns
-returns c = rw part-front at (c .stands-at .ensures) ∙ shares-stands _ _ _ (omega arith) (omega arith)
+returns c = rw part-front at (c .stands-at .ensures .0) ∙ shares-stands _ _ _ (omega arith) (omega arith)
 
 pub is-shared-spec : {M : Type 1} → statement M
 is-shared-spec =

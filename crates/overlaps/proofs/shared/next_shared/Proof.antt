@@ -1,10 +1,11 @@
 -- `next_shared` is `nextShared`. The loop's invariant: the numbers from n on say what those from s on say.
 use mathlib.Core.Path.{_≡_, sym, _∙_}
-use Prim.Native.Nat.{_-_, min}
+use Prim.Native.Nat.{_+_, _-_, min}
 use native.Mathlib.Omega.{arith}
 use lib.ListN.{length}
 use Rattle.overlaps.specs.Position.{nextShared}
 use Rattle.overlaps.proofs.Positions.{shared-here, shared-later, shared-end}
+use Rattle.overlaps.proofs.PassedOver.{shares-some, agreeing-from, passed-over}
 use borrow.Author.Needs.{needs}
 use Rattle.overlaps.proofs.shared.next_shared.Statement.{statement}
 use Rattle.overlaps.proofs.shared.next_shared.Tie as tie
@@ -32,16 +33,39 @@ returns c =
     sym (sym (l .loop .inv .1)
     ∙ shared-here _ _ _ (l .loop .n) (omega arith) (sym (c .before .is-shared .ensures) ∙ c .if1 .taken))
 
-add-n : tie.Need-add-n Inv-loop μ-loop
-add-n c = search needs
+add-next-agreeing : tie.Need-add-next-agreeing Inv-loop μ-loop
+add-next-agreeing c = search needs
+
+next-agreeing-requires : tie.Need-next-agreeing-requires Inv-loop μ-loop
+next-agreeing-requires c κs =
+    let l = c .before .before .before in
+    let some = shares-some _ _ (l .loop .n) (sym (c .before .is-shared .ensures) ∙ c .if1 .left) in
+    (omega arith, omega arith, omega arith, omega arith)
 
 loop-less : tie.Need-loop-less Inv-loop μ-loop
-loop-less c = search needs
+loop-less c =
+    let e = c .before in
+    let l = e .before .before .before in
+    let s = l .before .before .before .before in
+    let q = next-agreeing-requires e (c .next-agreeing .lifetimes) in
+    omega (arith, c .next-agreeing .ensures, agreeing-from (s .args .u .now) (s .args .v .now) (l .before .lesser .result) (l .loop .n + 1) (q .0) (q .1) (q .2) (q .3))
 
 loop-again : tie.Need-loop-again Inv-loop μ-loop
 loop-again c =
-    let l = c .before .before .before in
-    (l .loop .inv .0, shared-later _ _ _ (l .loop .n) (omega arith) (sym (c .before .is-shared .ensures) ∙ c .if1 .left) ∙ l .loop .inv .1)
+    let e = c .before in
+    let l = e .before .before .before in
+    let s = l .before .before .before .before in
+    let u = s .args .u .now in
+    let v = s .args .v .now in
+    let most = l .before .lesser .result in
+    let r = c .next-agreeing .result in
+    let q = next-agreeing-requires e (c .next-agreeing .lifetimes) in
+    let p : nextShared u v r (most - r) ≡ nextShared u v (l .loop .n + 1) (most - (l .loop .n + 1)) = rw (c .next-agreeing .ensures) (passed-over u v most (l .loop .n + 1) (q .0) (q .1) (q .2) (q .3)) in (
+      l .loop .inv .0,
+      rw (l .loop .inv .0) at p
+          ∙ shared-later u v _ (l .loop .n) (omega arith) (sym (e .before .is-shared .ensures) ∙ e .if1 .left)
+          ∙ l .loop .inv .1,
+    )
 
 returns-2 : tie.Need-returns-2 Inv-loop μ-loop
 returns-2 c =
@@ -58,7 +82,8 @@ next-shared-spec =
     loop-holds
     is-shared-requires
     returns
-    add-n
+    add-next-agreeing
+    next-agreeing-requires
     loop-less
     loop-again
     returns-2)

@@ -31,7 +31,7 @@ stands-at-requires c κs = search needs
 returns-2 : tie.Need-returns-2 Inv-loop μ-loop
 returns-2 c =
     let l = c .before .before .before in
-    sym (sym (l .loop .inv .2) ∙ leftmost-here _ _ (l .loop .at) (omega arith) (sym (c .before .stands-at .ensures) ∙ c .if2 .taken))
+    sym (sym (l .loop .inv .2) ∙ leftmost-here _ _ (l .loop .at) (omega arith) (sym (c .before .stands-at .ensures .0) ∙ c .if2 .taken))
 
 add-at : tie.Need-add-at Inv-loop μ-loop
 add-at c = search needs
@@ -42,7 +42,7 @@ loop-less c = search needs
 loop-again : tie.Need-loop-again Inv-loop μ-loop
 loop-again c =
     let l = c .before .before .before in
-    let n = sym (c .before .stands-at .ensures) ∙ c .if2 .left in
+    let n = sym (c .before .stands-at .ensures .0) ∙ c .if2 .left in
     let h = stands-not-last _ _ (l .loop .at) (omega arith) n in
     (search needs, omega arith, leftmost-later _ _ (l .loop .at) (omega arith) n ∙ l .loop .inv .2)
 
