@@ -5,7 +5,7 @@
 # make install       installs the command, the library, the header and vaultgarlic.pc under PREFIX (/usr/local), in DESTDIR if that is set
 # make uninstall     removes what install installed
 # make bench         the time of each service, beside two Rust implementations; BENCH='--ms 1000' for more repeats (docs/BENCH.md)
-# make soak          the comparison with the oracle on 1,000,000 inputs
+# make soak          the comparison with the oracle on 1,000,000 inputs, and a word at a place for each that is random
 # make stack         the bytes of stack that a call of each service takes, measured on the examples
 # make gate-times    the last gate's seconds and edits, crate by crate, for docs/changes/; of another log with LOG=FILE; beside those of an
 #                    earlier log with BEFORE=FILE
@@ -16,15 +16,16 @@
 # make documents     what the documents name (theorems, files, edits, crates, targets), held to the sources; the table of the gate's times
 # make gate          rt ci, which begins by removing target/
 # make library       the static library, proved
+# make trials        the functions below the services that tests call, proved, as an archive of their own; nothing installs it
 # make client-test   the header as C++, and the examples in C, compiled and run
 # make command-test  the command and the program, the packages and formulas of examples/, the sessions in the documents
 # make install-test  installs to a temporary folder, builds a client there, uninstalls
-# make guard         the library on buffers of exact length, under the sanitizers
-# make differential  the oracle's own tests, and the comparison with it on 50,000 inputs
+# make guard         the library and the trial archive on buffers of exact length, under the sanitizers
+# make differential  the oracle's own tests, and the comparison with it on 50,000 inputs, and a word at a place for each that is random
 
 SHELL = /bin/bash
 
-.PHONY: all test gate command install uninstall bench soak stack gate-times clean layout documents library client-test command-test install-test guard differential
+.PHONY: all test gate command install uninstall bench soak stack gate-times clean layout documents library trials client-test command-test install-test guard differential
 .NOTPARALLEL:
 
 PREFIX ?= /usr/local
@@ -36,6 +37,7 @@ VERSION := $(shell cat VERSION)
 CC = gcc
 CFLAGS = -std=c11 -O2 -Wall -Wextra -Wpedantic -Werror
 LIBRARY = target/staticlib/libvaultgarlic.a
+TRIALS = target/staticlib/libtrials.a
 HEADER = include/vaultgarlic.h
 PROGRAM = target/bin/overlap_list
 SOURCES := crates.txt $(shell find crates -name '*.rt' -o -name '*.antt')
@@ -46,7 +48,7 @@ all:
 	@rt check
 
 # The gate goes before the C side: the library is then made of what it proved.
-test: layout documents gate library client-test command-test install-test guard differential
+test: layout documents gate library trials client-test command-test install-test guard differential
 	@tail -n 1 target/gate.log
 
 gate:
@@ -61,12 +63,18 @@ documents:
 	@echo '== documents'
 	@python3 -B -m unittest discover -q -s tests/documents
 
-# `library` always asks rt, which knows by the files' contents whether anything is to be done.
+# `library` and `trials` always ask rt, which knows by the files' contents whether anything is to be done.
 library $(LIBRARY): $(SOURCES)
 	@echo '== static library'
 	@mkdir -p target
 	@rt staticlib vaultgarlic >target/staticlib.log 2>&1 || { cat target/staticlib.log; exit 1; }
 	@touch $(LIBRARY)
+
+trials $(TRIALS): $(SOURCES)
+	@echo '== trial archive'
+	@mkdir -p target
+	@rt staticlib trials >target/trials.log 2>&1 || { cat target/trials.log; exit 1; }
+	@touch $(TRIALS)
 
 # The gate leaves the program behind; without a gate, rt makes it.
 $(PROGRAM): $(SOURCES)
@@ -91,20 +99,20 @@ install-test: target/vaultgarlic
 	@echo '== install'
 	@CC='$(CC)' tests/command/install.sh
 
-guard: $(LIBRARY)
+guard: $(LIBRARY) $(TRIALS)
 	@echo '== buffers of exact length'
 	@mkdir -p target/guard
-	@$(CC) -std=c11 -Wall -Wextra -O1 -g -fsanitize=address,undefined -Iinclude tests/c/guard.c $(LIBRARY) -o target/guard/guard
+	@$(CC) -std=c11 -Wall -Wextra -O1 -g -fsanitize=address,undefined -Iinclude tests/c/guard.c $(LIBRARY) $(TRIALS) -o target/guard/guard
 	@$(ORACLE) --inputs 25000 --write-cases target/guard/cases >target/guard/log || { cat target/guard/log; exit 1; }
 	@target/guard/guard target/guard/cases
 
-differential: $(LIBRARY)
+differential: $(LIBRARY) $(TRIALS)
 	@echo '== the oracle, and the comparison with it'
 	@cargo test $(CARGO_OPTIONS) >target/differential.log || { cat target/differential.log; exit 1; }
 	@$(ORACLE) >target/differential.log || { cat target/differential.log; exit 1; }
-	@tail -n 1 target/differential.log
+	@tail -n 2 target/differential.log
 
-soak: $(LIBRARY)
+soak: $(LIBRARY) $(TRIALS)
 	@echo '== comparison with the oracle, 1,000,000 inputs'
 	@$(ORACLE) --inputs 1000000
 

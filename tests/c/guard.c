@@ -1,4 +1,4 @@
-/* guard.c: calls the library with buffers of exact length and compares with stored answers.
+/* guard.c: calls the library and the trial archive with buffers of exact length and compares with stored answers.
  *
  *     guard CASES
  *
@@ -6,7 +6,7 @@
  * what stands in it. Each case is called three times: with buffers from malloc, which the address sanitizer
  * watches in code that it compiled and in the functions of the C library; with buffers that end where a page
  * begins that must not be touched; and with buffers that begin where such a page ends. The last two catch any
- * access outside a buffer, in the archive too, which no sanitizer compiled.
+ * access outside a buffer, in the archives too, which no sanitizer compiled.
  */
 #define _DEFAULT_SOURCE
 #include <stdint.h>
@@ -16,16 +16,19 @@
 #include <sys/mman.h>
 #include <unistd.h>
 
+#include "trials.h"
 #include "vaultgarlic.h"
 
-enum { CHECK, LISTING, SHORT_FORM, MEMBERSHIP, SERVICES };
+/* What a case calls: a service, or the trial of a word at a place of another. */
+enum { CHECK, LISTING, SHORT_FORM, MEMBERSHIP, STANDS_AT, FUNCTIONS };
 enum { EXACT, BEFORE_GUARD, BEHIND_GUARD, PLACEMENTS };
 
-static const char *const service_names[SERVICES] = {"check", "listing", "short form", "membership"};
+static const char *const names[FUNCTIONS] = {"check", "listing", "short form", "membership", "word at a place"};
 static const char *const placement_names[PLACEMENTS] = {"from malloc", "before a guard page", "behind a guard page"};
 
 /* The ten numbers of a case, in the order of the file: 64 bits each, lowest byte first, as machines that this
- * client runs on hold them. */
+ * client runs on hold them. For a word at a place the package is the word, the formula the other word, and the
+ * budget the place; number and place are the two fields of the answer. */
 typedef struct {
     uint64_t service, package_len, formula_len, budget, out_len;
     uint64_t number, place, count, last, written;
@@ -82,9 +85,13 @@ static answer call(const head *h, const uint8_t *package, const uint8_t *formula
                                        h->out_len);
         return (answer){r.number, r.place, r.steps, r.written};
     }
-    default: {
+    case MEMBERSHIP: {
         vg_membership r = vg_member(package, h->package_len, formula, h->formula_len, (uint32_t)h->budget);
         return (answer){r.number, r.place, r.steps, r.member};
+    }
+    default: {
+        vg_trial_stood r = vg_trial_stands_at(package, h->package_len, formula, h->formula_len, h->budget);
+        return (answer){r.stands, r.compared, 0, 0};
     }
     }
 }
@@ -127,7 +134,7 @@ static int agrees(const head *h, unsigned long number, int placement, uint8_t *c
     int right = output_is_right(h, o, written);
     if (!same || !kept || !right)
         printf("case %lu, %s, buffers %s: stored %lu %lu %lu %lu, answered %lu %lu %lu %lu%s%s\n", number,
-               service_names[h->service], placement_names[placement], (unsigned long)h->number,
+               names[h->service], placement_names[placement], (unsigned long)h->number,
                (unsigned long)h->place, (unsigned long)h->count, (unsigned long)h->last, (unsigned long)a.number,
                (unsigned long)a.place, (unsigned long)a.count, (unsigned long)a.last,
                kept ? "" : "; an input was changed", right ? "" : "; the output differs");
@@ -148,7 +155,7 @@ int main(int argc, char **argv) {
     unsigned long cases = 0, calls = 0;
     int same = 1;
     while (same && fread(&h, sizeof h, 1, file) == 1) {
-        if (h.service >= SERVICES || h.package_len > LONGEST || h.formula_len > LONGEST || h.out_len > LONGEST ||
+        if (h.service >= FUNCTIONS || h.package_len > LONGEST || h.formula_len > LONGEST || h.out_len > LONGEST ||
             h.written > h.out_len)
             stop("not a file of cases");
         get(file, package, h.package_len);

@@ -15,5 +15,6 @@ pub mod package;
 pub mod poly;
 pub mod refusal;
 pub mod services;
+pub mod standing;
 pub mod steps;
 pub mod word;

@@ -1,9 +1,10 @@
-//! Compares the oracle with the static library, input by input.
+//! Compares the oracle with the static library, input by input, and with the trial archive, word by word.
 //!
 //! `differential [--inputs N] [--seed S] [--round R] [--write-cases FILE]`
 //!
 //! A run has the fixed inputs and then random rounds until there are N inputs. With `--round R` it has that
-//! round alone. It ends at the first difference.
+//! round alone. It ends at the first difference. A random round has a word at a place of another for each of
+//! its inputs, and the fixed inputs begin with all small ones.
 
 mod casefile;
 mod compare;
@@ -12,6 +13,7 @@ mod fixed;
 mod input;
 mod options;
 mod round;
+mod standing;
 mod surround;
 mod tally;
 
@@ -19,8 +21,12 @@ use casefile::CaseFile;
 use compare::shown;
 use input::Input;
 use options::Options;
+use oracle::generate::draft::Draft;
 use oracle::generate::examples::examples;
+use oracle::generate::place_rows::place_rows;
+use oracle::generate::places::{drawn, every_small, AtPlace};
 use oracle::generate::random::Random;
+use standing::Ways;
 use std::process::exit;
 use tally::Tally;
 
@@ -35,6 +41,7 @@ struct Run {
     bytes: Random,
     cases: Option<CaseFile>,
     tally: Tally,
+    ways: Ways,
 }
 
 impl Run {
@@ -42,31 +49,74 @@ impl Run {
     fn take(&mut self, input: &Input) {
         let expected = compare::expect(input);
         if let Some(cases) = &mut self.cases {
-            cases.write(input, &expected).unwrap_or_else(|error| options::stop(&format!("cases: {error}")));
+            written(cases.write(input, &expected));
         }
         self.tally.count(input, &expected);
         if let Some(message) = compare::difference(&mut self.bytes, input, &expected) {
-            self.report(input, &message);
+            println!("DIFFERENCE in input {}, {}", self.tally.inputs(), input.service.name());
+            self.report_round();
+            report(input, &message);
             exit(1);
         }
     }
 
-    fn report(&self, input: &Input, message: &str) {
-        println!("DIFFERENCE in input {}, {}", self.tally.inputs(), input.service.name());
+    /// The same for a word at a place.
+    fn take_place(&mut self, at: &AtPlace) {
+        let expected = standing::expect(at);
+        if let Some(cases) = &mut self.cases {
+            written(cases.write_place(at, expected));
+        }
+        self.ways.count(at, expected, self.round.is_some());
+        if let Some(message) = standing::difference(at, expected) {
+            println!("DIFFERENCE in word at a place {}", self.ways.all());
+            self.report_round();
+            print!("{message}");
+            exit(1);
+        }
+    }
+
+    fn fixed(&mut self) {
+        place_rows().iter().for_each(|(at, _)| self.take_place(at));
+        every_small().for_each(|at| self.take_place(&at));
+        fixed::fixed(&mut |input| self.take(input));
+        exhaustive::exhaustive(&mut |input| self.take(input));
+    }
+
+    /// A random round: its inputs, and as many words at places.
+    fn round(&mut self, number: u64, examples: &[Draft]) {
+        self.round = Some(number);
+        let random = &mut Random::new(self.seed, number);
+        let before = self.tally.inputs();
+        round::round(random, examples, &mut |input| self.take(input));
+        for _ in before..self.tally.inputs() {
+            self.take_place(&drawn(random));
+        }
+    }
+
+    fn report_round(&self) {
         match self.round {
             Some(round) => {
                 println!("seed {}, round {round}: --seed {} --round {round}", self.seed, self.seed)
             }
             None => println!("one of the fixed inputs"),
         }
-        println!(
-            "budget {}, output of {} bytes, NULL for no bytes: {}",
-            input.budget, input.out_len, input.null
-        );
-        print!("{message}");
-        println!("package of {} bytes:\n{}", input.package.len(), shown(input.package));
-        println!("formula of {} bytes:\n{}", input.formula.len(), shown(input.formula));
     }
+
+    fn print_totals(&self) {
+        println!("{} words at places, no difference", self.ways.all());
+        println!("{} inputs, no difference", self.tally.inputs());
+    }
+}
+
+fn written(case: std::io::Result<()>) {
+    case.unwrap_or_else(|error| options::stop(&format!("cases: {error}")));
+}
+
+fn report(input: &Input, message: &str) {
+    println!("budget {}, output of {} bytes, NULL for no bytes: {}", input.budget, input.out_len, input.null);
+    print!("{message}");
+    println!("package of {} bytes:\n{}", input.package.len(), shown(input.package));
+    println!("formula of {} bytes:\n{}", input.formula.len(), shown(input.formula));
 }
 
 fn main() {
@@ -76,27 +126,27 @@ fn main() {
     });
     let examples = examples(EXAMPLES).unwrap_or_else(|error| options::stop(&error));
     let bytes = Random::new(options.seed, u64::MAX);
-    let mut run = Run { seed: options.seed, round: None, bytes, cases, tally: Tally::default() };
+    let (tally, ways) = (Tally::default(), Ways::default());
+    let mut run = Run { seed: options.seed, round: None, bytes, cases, tally, ways };
     if let Some(number) = options.round {
-        run.round = Some(number);
-        round::round(&mut Random::new(options.seed, number), &examples, &mut |input| run.take(input));
-        println!("round {number} of seed {}: {} inputs, no difference", options.seed, run.tally.inputs());
+        run.round(number, &examples);
+        println!("round {number} of seed {}", options.seed);
+        run.print_totals();
         return;
     }
-    fixed::fixed(&mut |input| run.take(input));
-    exhaustive::exhaustive(&mut |input| run.take(input));
+    run.fixed();
     for number in 0.. {
         if run.tally.inputs() >= options.inputs {
             break;
         }
-        run.round = Some(number);
         run.tally.rounds += 1;
-        round::round(&mut Random::new(options.seed, number), &examples, &mut |input| run.take(input));
+        run.round(number, &examples);
     }
     run.tally.print();
-    let missing = run.tally.missing();
+    run.ways.print();
+    let missing = [run.tally.missing(), run.ways.missing(run.tally.rounds)].concat();
     missing.iter().for_each(|line| println!("{line}"));
-    println!("{} inputs, no difference", run.tally.inputs());
+    run.print_totals();
     if !missing.is_empty() {
         exit(1);
     }
