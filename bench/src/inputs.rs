@@ -47,7 +47,7 @@ pub fn stored_formulas(package: &str) -> Vec<Named> {
 }
 
 /// The number in place of p, the last letter in use, and the leading words of the basis.
-fn leads(package: &[u8]) -> (usize, u8, Vec<String>) {
+pub fn leads(package: &[u8]) -> (usize, u8, Vec<String>) {
     let text = String::from_utf8_lossy(package);
     let mut lines = text.lines().map(|line| line.split(' ').collect::<Vec<_>>());
     let counts: Vec<usize> =

@@ -1,15 +1,18 @@
 //! The library's times, side by side with two Rust implementations of the same services, in one process.
 //!
-//! `--ms N` gives each row N milliseconds; `--table NAME` prints one table: packages, formulas, bytes, growth or
-//! fields.
+//! `--ms N` gives each row N milliseconds; `--table NAME` prints one table: packages, letters, formulas, bytes,
+//! growth or fields.
 
 mod fields;
 mod inputs;
+mod letters;
+mod long_fronts;
 mod many_overlaps;
 mod measure;
 mod near_bounds;
 mod peers;
 mod random;
+mod single_words;
 mod tables;
 mod timing;
 
@@ -30,9 +33,13 @@ fn main() {
 
     let mut packages = inputs::packages();
     packages.push(Named { name: "near every bound".into(), bytes: near_bounds::package(65_521, 31, 65_536) });
+    let many = Named { name: "many overlaps".into(), bytes: many_overlaps::package() };
+    let fronts = Named { name: "long fronts".into(), bytes: long_fronts::package() };
     if wanted("packages") {
-        let many = Named { name: "many overlaps".into(), bytes: many_overlaps::package() };
-        tables::packages(effort, packages.iter().chain([&many]));
+        tables::packages(effort, packages.iter().chain([&many, &fronts]));
+    }
+    if wanted("letters") {
+        letters::table(packages.iter().chain([&many, &fronts]));
     }
     if wanted("formulas") {
         tables::formulas(effort, &packages, inputs::stored_formulas);

@@ -1,8 +1,6 @@
-//! A package with thousands of overlaps: 32 relations that are single words of 24 letters a and b, and are the basis.
-//!
-//! The difference of two words' overlap is zero, so no O line is needed.
+//! A package with thousands of overlaps: 32 single words of 24 letters a and b.
 
-use std::fmt::Write;
+use crate::single_words;
 
 /// Words of 24 letters with one b, and some with two, in falling order.
 fn words() -> Vec<String> {
@@ -14,19 +12,5 @@ fn words() -> Vec<String> {
 }
 
 pub fn package() -> Vec<u8> {
-    let words = words();
-    let n = words.len();
-    let mut text = format!("p letters gens basis\n65521 2 {n} {n}\nkind item coef word\n");
-    for kind in ['G', 'B'] {
-        for (item, word) in (1..).zip(&words) {
-            writeln!(text, "{kind} {item} 1 {word}").unwrap();
-        }
-    }
-    text += "kind item coef left of right\n";
-    for kind in ['B', 'G'] {
-        for item in 1..=n {
-            writeln!(text, "{kind} {item} 1 - {item} -").unwrap();
-        }
-    }
-    text.into_bytes()
+    single_words::package(2, &words())
 }
