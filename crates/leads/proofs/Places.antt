@@ -1,6 +1,6 @@
 -- Laws of the search, place after place: one for each way through a turn of `leftmost_lead`.
 use mathlib.Core.Path.{_≡_, refl}
-use mathlib.Core.Bool.{Bool, true, false}
+use mathlib.Core.Bool.{true}
 use mathlib.Core.Option.{none, some}
 use mathlib.Core.List.{List, [], _∷_}
 use Prim.Native.Nat.{ℕ, zero, suc, _+_, _-_, _≤_, _<_}
@@ -8,16 +8,13 @@ use native.Mathlib.Numerals.{add-one}
 use native.Mathlib.Omega.{arith}
 use lib.ListN.{length, getD, take, drop, length-drop, drop-of-length-le}
 use lib.Seq.{drop-cons, take-all}
+use Rattle.lists.proofs.Bools.{not-true}
 use Rattle.words.specs.Word.{Word}
 use Rattle.words.specs.Place.{begins}
 use Rattle.algebra.specs.Spot.{nowhere, found, spotAt}
 use Rattle.leads.specs.Masks.{LowestBit}
 use Rattle.leads.specs.SpotOfWords.{BegunBy, firstBeginning, spotOfWordsFrom, spotOfWords}
 use Rattle.leads.proofs.Bits.{bit-zero}
-
-not-true : (b : Bool) → (b ≡ true → ⊥) → b ≡ false
-not-true true n = absurd (n refl)
-not-true false n = refl
 
 -- the first word that v begins with
 first-at : (ls : List Word) (n g : ℕ) (v : Word) → g < length ls → begins (getD ls g []) v ≡ true → ((j : ℕ) → j < g → begins (getD ls j []) v ≡ true → ⊥)

@@ -1,5 +1,6 @@
--- What other crates cite: laws of `All`, of parts of lists, of runs of stores, and of `same`.
+-- What other crates cite: laws of `All`, of parts of lists, of runs of stores, of `same`, and of a yes or no.
 pub mod Every
 pub mod Parts
 pub mod Stores
 pub mod Sameness
+pub mod Bools

@@ -11,6 +11,7 @@ use Rattle.words.proofs.Standing.{stands-iff, stands-letter}
 use Rattle.wordplaces.specs.TwoLetters.{twoSame}
 use Rattle.wordplaces.proofs.TwoLetters.{same-both}
 use Rattle.lists.specs.Same.{same}
+use Rattle.lists.proofs.Bools.{not-true}
 use Rattle.overlaps.specs.Overlaps.{shares}
 use Rattle.overlaps.specs.Position.{nextShared, nextAgreeing}
 use Rattle.overlaps.proofs.Positions.{shares-stands}
@@ -36,11 +37,7 @@ module _ (u v : Word) where
             sym (getD-take k v j 0 b) ∙ sym (stands-letter (take k v) u (length u - k) s j t) ∙ ap (λ (z : ℕ). getD u z 0) q
 
     not-shared : twoSame v (k - 2) u (length u - 2) ≡ false → shares u v k ≡ false
-    not-shared t = go (shares u v k) refl
-      where
-        go : (s : Bool) → shares u v k ≡ s → s ≡ false
-        go true e = absurd (true≢false (sym (shared-two e) ∙ t))
-        go false e = refl
+    not-shared t = not-true (shares u v k) (λ e. true≢false (sym (shared-two e) ∙ t))
 
   -- what is found from n on, among d numbers: it is no earlier, and the numbers before it are not shared
   Passed : ℕ → ℕ → ℕ → Type 0

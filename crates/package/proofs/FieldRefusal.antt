@@ -8,8 +8,9 @@ use native.Mathlib.Omega.{arith}
 use lib.Dec.{ltb}
 use lib.ListN.{length}
 use borrow.Author.Tests.{le-ltb, ltb-false}
+use Rattle.lists.proofs.Bools.{not-true}
 use Rattle.package.specs.Answer.{refused, read, _then_}
-use Rattle.package.specs.Head.{HeadForm, noHead, head, headForm, MeansField, fieldFits, countsFit}
+use Rattle.package.specs.Head.{HeadForm, noHead, head, headForm, fieldFits, countsFit}
 use Rattle.package.specs.Names.{headNames}
 use Rattle.package.specs.NoField.{NoField}
 use Rattle.package.specs.Package.{packageLimits, namesLine, CountsBlock, countsJudged, countsLine, termNamesLine, headLines, termBlock, sumBlock, sized, readWith, readPackage}
@@ -100,11 +101,7 @@ head-3 second rest h q a = rw (countsLine, q, countsJudged, a)
 pub refused-3 : (bytes : List ℕ) → NoField bytes → readPackage bytes ≡ refused 3 2
 unfolding readPackage readWith _then_
 refused-3 bytes n =
-    rw (sized-read bytes (n .size), n .cut, head-3 (n .second) (n .rest) (n .counts) (n .says) (fits-not-true (n .none)))
+    rw (sized-read bytes (n .size), n .cut, head-3 (n .second) (n .rest) (n .counts) (n .says) no-fit)
   where
-    fits-not-true : (MeansField (n .counts .p) → ⊥) → fieldFits (n .counts .p) ≡ false
-    fits-not-true none = go (fieldFits (n .counts .p)) refl
-      where
-        go : (t : Bool) → fieldFits (n .counts .p) ≡ t → fieldFits (n .counts .p) ≡ false
-        go true q = absurd (none (fits-iff (n .counts .p) .0 q))
-        go false q = q
+    no-fit : fieldFits (n .counts .p) ≡ false
+    no-fit = not-true (fieldFits (n .counts .p)) (λ q. n .none (fits-iff (n .counts .p) .0 q))

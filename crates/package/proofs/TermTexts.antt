@@ -1,6 +1,6 @@
 -- Term lines as texts: what reads as a term line is the writing of it, and a written term line reads back.
 use mathlib.Core.Path.{_≡_, refl, sym, ap, _∙_}
-use mathlib.Core.Bool.{Bool, true, false}
+use mathlib.Core.Bool.{true, false}
 use mathlib.Core.List.{List}
 use Prim.Native.Nat.{ℕ, zero, suc, _≤_, _<_}
 use native.Mathlib.Omega.{arith}
@@ -11,6 +11,7 @@ use Rattle.package.specs.Terms.{noTerm, term, termForm}
 use Rattle.package.specs.Writing.{termFields}
 use Rattle.text.proofs.Bytewise.{within-bounds}
 use Rattle.lists.proofs.Sameness.{same-eq}
+use Rattle.lists.proofs.Bools.{not-true}
 use Rattle.text.proofs.FieldTexts.{starts-number, number-starts, ends-word, word-ends, kind-starts, starts-kind, number-clear, word-clear}
 use Rattle.text.proofs.PieceTexts.{fields-written, without-joined}
 use Rattle.text.specs.Bytes.{within, allWithin}
@@ -112,10 +113,10 @@ module _ (k i c : ℕ) (w : List ℕ) (r : within termG termB k ≡ true) (l : a
   -- It is no names line: it has four fields and not six.
   pub not-names : same (writeFields (termFields k i c w)) sumNames ≡ false
   unfolding termFields pieces onto
-  not-names = go (same (writeFields (termFields k i c w)) sumNames) refl
+  not-names = not-true (same (writeFields (termFields k i c w)) sumNames) other
     where
-      go : (t : Bool) → same (writeFields (termFields k i c w)) sumNames ≡ t → t ≡ false
-      go false e = refl
-      go true e =
+      other : same (writeFields (termFields k i c w)) sumNames ≡ true → ⊥
+      other e =
           let q : termFields k i c w ≡ fields sumNames = sym term-fields ∙ ap fields (same-eq (writeFields (termFields k i c w)) sumNames e) in
-          absurd (let y : _≡_ {A = ℕ} 0 1 = cc in omega arith)
+          let y : _≡_ {A = ℕ} 0 1 = cc in
+          absurd (omega arith)

@@ -7,7 +7,7 @@ use native.Mathlib.Omega.{arith}
 use lib.ListN.{length, getD, drop}
 use Rattle.words.specs.Word.{Word}
 use Rattle.words.specs.Place.{Stands, standsAt, comparedAt, past, all}
-use Rattle.words.proofs.Standing.{stands-iff, stands-not, stands-ends, stands-letter}
+use Rattle.words.proofs.Standing.{stands-iff, stands-not, stands-past, stands-letter}
 use Rattle.words.proofs.Comparing.{behind-all, behind-same, behind-differs, compared-iff}
 use Rattle.wordplaces.specs.TwoLetters.{twoSame}
 use Rattle.wordplaces.proofs.TwoLetters.{both-same, same-both}
@@ -24,7 +24,7 @@ both-joined x y m n (e, f) (g, h) = (e ∙ g, f ∙ h)
 
 module _ (b w : Word) (i : ℕ) where
   pub said-past : length w < i + length b → (false ≡ standsAt b w i) × (0 ≡ comparedAt b w i)
-  said-past h = (sym (stands-not b w i (λ s. absurd (omega (arith, stands-ends b w i s)))), sym (compared-iff b w i 0 .1 (past h refl)))
+  said-past h = (sym (stands-past b w i h), sym (compared-iff b w i 0 .1 (past h refl)))
 
   pub none-compared : i + length b ≤ length w → Agreed b w i (length b)
   none-compared h = record { fits = h; most = omega arith; stands = behind-all b w i h }

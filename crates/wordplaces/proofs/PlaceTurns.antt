@@ -1,26 +1,20 @@
 -- One law for each way through the search for the leftmost place: what is left of the word says what the whole word says.
 use mathlib.Core.Path.{_≡_, refl, sym, _∙_}
-use mathlib.Core.Bool.{Bool, true, false, true≢false}
+use mathlib.Core.Bool.{true, false, true≢false}
 use mathlib.Core.List.{[], _∷_}
 use Prim.Native.Nat.{ℕ, zero, suc, _+_, _≤_, _<_}
 use native.Mathlib.Numerals.{add-one}
 use native.Mathlib.Omega.{arith}
-use lib.Dec.{eqb}
 use lib.ListN.{length, drop, length-drop}
 use lib.Seq.{drop-cons}
 use Rattle.words.specs.declared.Found.the-variants.{At, Nowhere}
 use Rattle.words.specs.Word.{Word}
 use Rattle.words.specs.Place.{begins, standsAt, leftmostFrom, leftmost}
+use Rattle.words.proofs.Standing.{stands-past}
 
 begins-long : (b w : Word) → length w < length b → begins b w ≡ false
-unfolding begins
-begins-long [] w h = absurd (omega arith)
-begins-long (x ∷ b) [] h = refl
-begins-long (x ∷ b) (y ∷ w) h = go (eqb x y) (begins-long b w (omega arith))
-  where
-    go : (t : Bool) → begins b w ≡ false → _≡_ {A = Bool} (elim t [ true ↦ begins b w | false ↦ false ]) false
-    go true e = e
-    go false e = refl
+unfolding standsAt
+begins-long b w h = stands-past b w 0 (omega arith)
 
 pub stands-inside : (b w : Word) (i : ℕ) → i ≤ length w → standsAt b w i ≡ begins b (drop i w)
 unfolding standsAt

@@ -9,6 +9,7 @@ use lib.Dec.{eqb}
 use lib.ListN.{length, getD, take, drop, length-append, take-append-drop, List·getD-append}
 use lib.Seq.{length-take-le, getD-append-add}
 use borrow.Author.Tests.{eq-eqb, eqb-true}
+use Rattle.lists.proofs.Bools.{not-true}
 use Rattle.words.specs.declared.Found.{Found}
 use Rattle.words.specs.declared.Found.the-variants.{At, Nowhere}
 use Rattle.words.specs.Word.{Word, around}
@@ -54,11 +55,7 @@ not-stands : (b w : Word) (i : ℕ) → standsAt b w i ≡ false → Stands b w 
 not-stands b w i e s = true≢false (sym (stands-iff b w i .1 s) ∙ e)
 
 pub stands-not : (b w : Word) (i : ℕ) → (Stands b w i → ⊥) → standsAt b w i ≡ false
-stands-not b w i n = go (standsAt b w i) refl
-  where
-    go : (t : Bool) → standsAt b w i ≡ t → t ≡ false
-    go true e = absurd (n (stands-iff b w i .0 e))
-    go false e = refl
+stands-not b w i n = not-true (standsAt b w i) (λ e. n (stands-iff b w i .0 e))
 
 -- a word that stands ends no later than the other, and its letters are the other's
 module _ (b w : Word) (i : ℕ) (s : Stands b w i) where
@@ -69,6 +66,10 @@ module _ (b w : Word) (i : ℕ) (s : Stands b w i) where
   pub stands-letter : (j : ℕ) → j < length b → getD w (i + j) 0 ≡ getD b j 0
   stands-letter j h =
       rw (← s .fits, ← s .place, getD-append-add (s .left) (b ++ s .right) j 0) (List·getD-append b (s .right) 0 j h)
+
+-- and one that would run past the other's end does not stand
+pub stands-past : (b w : Word) (i : ℕ) → length w < i + length b → standsAt b w i ≡ false
+stands-past b w i h = stands-not b w i (λ s. absurd (omega (arith, stands-ends b w i s)))
 
 -- the empty word stands at every place from 0 to the length
 pub stands-empty : (w : Word) (i : ℕ) → i ≤ length w → Stands [] w i
