@@ -1,6 +1,7 @@
--- What other crates cite: what follows of any admissible order, the orders that are admissible, and where words stand.
+-- What other crates cite: what follows of any admissible order, the orders that are admissible, weights, and where words stand.
 pub mod Admissible
 pub mod Lexicographic
+pub mod Weights
 pub mod WeightedOrder
 pub mod WordOrder
 pub mod Standing

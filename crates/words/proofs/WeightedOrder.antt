@@ -11,15 +11,11 @@ use Rattle.words.specs.declared.Comparison.the-variants.{Below, Equal, A
 use Rattle.words.specs.Word.{Word}
 use Rattle.words.specs.Order.{Lt, opposite, Admissible}
 use Rattle.words.specs.Weighted.{Weighing, Proper, weight, weightedOrder}
+use Rattle.words.proofs.Weights.{weight-append}
 use Rattle.words.proofs.Lexicographic.{number-less, number-greater, number-same, Lex, lex-irrefl, lex-trans, lex-left, LetterCases, letter-cases}
 
 module _ (W : Weighing) where
   open Weighing W using (weigh, rank)
-
-  weight-append : (u v : Word) → weight weigh (u ++ v) ≡ weight weigh u + weight weigh v
-  unfolding weight
-  weight-append [] v = omega arith
-  weight-append (a ∷ u) v = omega (arith, weight-append u v)
 
   -- u is lighter, or of equal weight and first by letters
   unfoldable pub Less : Word → Word → Type 0
@@ -39,8 +35,8 @@ module _ (W : Weighing) where
 
   less-left : (l u v : Word) → Less u v → Less (l ++ u) (l ++ v)
   unfolding Less
-  less-left l u v (inl p) = inl (rw (weight-append l u, weight-append l v) (omega arith))
-  less-left l u v (inr p) = inr (rw (weight-append l u, weight-append l v, p .0), lex-left rank l u v (p .1))
+  less-left l u v (inl p) = inl (rw (weight-append weigh l u, weight-append weigh l v) (omega arith))
+  less-left l u v (inr p) = inr (rw (weight-append weigh l u, weight-append weigh l v, p .0), lex-left rank l u v (p .1))
 
   module _ (h : Proper W) where
     open Proper h using (some, own)
@@ -56,8 +52,8 @@ module _ (W : Weighing) where
 
     less-right : (r u v : Word) → Less u v → Less (u ++ r) (v ++ r)
     unfolding Less
-    less-right r u v (inl p) = inl (rw (weight-append u r, weight-append v r) (omega arith))
-    less-right r u v (inr p) = inr (rw (weight-append u r, weight-append v r, p .0), lex-right r u v (p .0) (p .1))
+    less-right r u v (inl p) = inl (rw (weight-append weigh u r, weight-append weigh v r) (omega arith))
+    less-right r u v (inr p) = inr (rw (weight-append weigh u r, weight-append weigh v r, p .0), lex-right r u v (p .0) (p .1))
 
     -- Well-foundedness: by weight, then by the rank of the first letter, then by what stands behind it.
     Lighter : ℕ → Type 0
