@@ -1,0 +1,11 @@
+pub mod Examples
+pub mod Values
+pub mod Packing
+pub mod BlockOrder
+pub mod Windows
+pub mod Blocks
+pub mod Appending
+pub mod Parts
+pub mod Standing
+pub mod Coding
+pub mod Texts
