@@ -1,0 +1,6 @@
+pub mod Entries
+pub mod PartOrder
+pub mod Filling
+pub mod Stores
+pub mod ThreeStores
+pub mod LongProducts
