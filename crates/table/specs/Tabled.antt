@@ -1,0 +1,32 @@
+-- What holds of the table of a package that was read.
+use mathlib.Core.Path.{_≡_}
+use mathlib.Core.List.{List}
+use Prim.Native.Nat.{ℕ, suc, _+_, _%_, _≤_, _<_}
+use lib.ListN.{length}
+use Rattle.field.specs.Field.{Field}
+use Rattle.lists.specs.All.{All}
+use Rattle.algebra.specs.Written.{Written}
+use Rattle.table.specs.Table.{tableSize, primeIn, gensIn, basisCountIn, termsIn, itemsIn, fieldIn, orderIn, inverseIn, firstIn, coefIn, sizeIn, blocksIn}
+use Rattle.table.specs.Words.{Held, Suits, Keys}
+use Rattle.table.specs.Polynomials.{relationsIn, basisIn}
+
+-- The counts are within document 01's bounds; coefficients are elements; each word has at most 24 letters and is held by its blocks; the terms
+-- of an item, at most 48, lie behind those of the item before it; and the polynomials are in written form.
+pub record Tabled (t : List ℕ) : Type 0 where
+  pub size : length t ≡ tableSize
+  pub prime : primeIn t ≤ 65536
+  pub gens : gensIn t ≤ 32
+  pub basis : basisCountIn t ≤ 64
+  pub terms : termsIn t ≤ 1024
+  pub field : Field (fieldIn t)
+  pub suits : Suits t
+  pub keys : Keys t
+  pub inverses : (g : ℕ) → g < basisCountIn t → inverseIn t g ≡ 1
+  pub small : (i : ℕ) → i < termsIn t → coefIn t i < primeIn t
+  pub short : (i : ℕ) → i < termsIn t → sizeIn t i % 256 ≤ 24
+  pub held : (i : ℕ) → i < termsIn t → Held t (sizeIn t i) (blocksIn t i)
+  pub rising : (j : ℕ) → 1 ≤ j → j ≤ itemsIn t → firstIn t j ≤ firstIn t (suc j)
+  pub most : (j : ℕ) → 1 ≤ j → j ≤ itemsIn t → firstIn t (suc j) ≤ termsIn t
+  pub few : (j : ℕ) → 1 ≤ j → j ≤ itemsIn t → firstIn t (suc j) ≤ firstIn t j + 48
+  pub relations-written : All (Written (fieldIn t) (orderIn t)) (relationsIn t)
+  pub basis-written : All (Written (fieldIn t) (orderIn t)) (basisIn t)
