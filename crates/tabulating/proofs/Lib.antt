@@ -1,0 +1,6 @@
+pub mod Stores
+pub mod KeptKeys
+pub mod RowEntries
+pub mod PlainKeys
+pub mod TermRows
+pub mod Tabulated

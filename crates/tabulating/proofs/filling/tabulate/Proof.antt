@@ -1,0 +1,79 @@
+-- `tabulate` fills the sections one after the other.
+use Rattle.tabulating.proofs.PlainKeys.{plain-keys}
+use Rattle.tabulating.proofs.Tabulated.{Begun, begun-of, sections-of, words-lie, tabled}
+use Rattle.tabulating.proofs.Tabulated.{prime-is, letter-count-is, gens-is, basis-count-is, relations-are, basis-is}
+use borrow.Author.Needs.{needs}
+use Rattle.tabulating.proofs.filling.tabulate.Statement.{statement}
+use Rattle.tabulating.proofs.filling.tabulate.Tie as tie
+
+cast-gens : tie.Need-cast-gens
+cast-gens c = search needs
+
+cast-basis : tie.Need-cast-basis
+cast-basis c = search needs
+
+put-head-requires : tie.Need-put-head-requires
+put-head-requires c κs = search needs
+
+put-keys-requires : tie.Need-put-keys-requires
+put-keys-requires c κs = search needs
+
+put-inverses-requires : tie.Need-put-inverses-requires
+put-inverses-requires c κs = search needs
+
+add-put-firsts : tie.Need-add-put-firsts
+add-put-firsts c = search needs
+
+add-put-firsts-2 : tie.Need-add-put-firsts-2
+add-put-firsts-2 c = search needs
+
+put-firsts-requires : tie.Need-put-firsts-requires
+put-firsts-requires c κs = search needs
+
+abbrev keys : tie.After-put-rows-arg → tie.After-put-keys
+keys c = c .before .before .before .before .before
+
+abbrev head : tie.After-put-rows-arg → tie.After-put-head
+head c = keys c .before .before
+
+abbrev start : tie.After-put-rows-arg → tie.Start
+start c = head c .before .before .before .before .before .before .before .before .before
+
+begun : (c : tie.After-put-rows-arg) → let a = start c .args in Begun (a .h) (a .m) (a .firsts .now) (c .before .put-firsts .last .0)
+begun c =
+    let s = start c in
+    let a = s .args in
+    let l = s .pre .1 in
+    let k = keys c .put-keys .ensures in
+    begun-of (a .h) (a .m) (a .firsts .now) (l .gens) (l .basis) (s .pre .0) (head c .put-head .ensures) (k .0) (k .1)
+    (c .before .before .before .put-inverses .ensures) (c .before .put-firsts .ensures)
+
+put-rows-requires : tie.Need-put-rows-requires
+put-rows-requires c κs =
+    let l = start c .pre .1 in
+    let b = begun c in
+    ((b .size, plain-keys _ (b .plain), l .count, l .terms .coefs-hold), words-lie l)
+
+returns : tie.Need-returns
+returns c =
+    let s = start (c .before) in
+    let a = s .args in
+    let l = s .pre .1 in
+    let b = begun (c .before) in
+    let x = sections-of (a .coefs .now) (a .starts .now) (a .lens .now) (a .bytes .now) (l .gens) (l .basis) b (c .put-rows .ensures) in
+    (tabled l x, ((prime-is l x, letter-count-is l x), ((gens-is l x, basis-count-is l x), (relations-are l x, basis-is l x))))
+
+pub tabulate-spec : {M : Type 1} → statement M
+tabulate-spec =
+    tie.close
+    (tie.spec
+    cast-gens
+    cast-basis
+    put-head-requires
+    put-keys-requires
+    put-inverses-requires
+    add-put-firsts
+    add-put-firsts-2
+    put-firsts-requires
+    put-rows-requires
+    returns)

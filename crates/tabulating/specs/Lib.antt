@@ -1,0 +1,5 @@
+-- What contracts cite of a table that is filled.
+pub mod Filled
+pub mod Plain
+pub mod Rows
+pub mod Lies

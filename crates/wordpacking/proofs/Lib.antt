@@ -1,0 +1,4 @@
+pub mod Letters
+pub mod Weights
+pub mod KeyedWords
+pub mod WordBlocks
