@@ -1,4 +1,4 @@
-mod Rotations
+pub mod Rotations
 pub mod Inserted
 mod NewTerm
 mod SameWord

@@ -1,0 +1,9 @@
+-- What other crates cite: what follows where the arrays hold a formula, and what the changes of specs/Change are of the polynomial.
+pub mod BuiltWords
+mod StoredBlocks
+mod Halving
+pub mod Places
+mod Sinks
+pub mod NewTerm
+pub mod SameWord
+mod Inserting

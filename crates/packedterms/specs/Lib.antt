@@ -1,0 +1,4 @@
+-- What contracts cite of the working formula with packed words.
+pub mod Formula
+pub mod Finding
+pub mod Change

@@ -1,0 +1,105 @@
+// One term added to the formula.
+
+use crate::search::find;
+use field::arithmetic::add;
+use packing::product::copy_place;
+use table::Table;
+use table::numbers::prime_in;
+use working::entries::rotate_left;
+use working::entries::rotate_right;
+ghost use mathlib.Core.Path.{_≡_};
+ghost use Prim.Native.Nat.{_+_, _≤_, _<_};
+ghost use lib.ListN.{length, getD};
+ghost use Rattle.algebra.specs.Written.{insert};
+ghost use Rattle.working.specs.Change.{single};
+ghost use Rattle.table.specs.Table.{primeIn, fieldIn, orderIn};
+ghost use Rattle.table.specs.Tabled.{Tabled};
+ghost use Rattle.table.specs.Words.{wordOf, Built};
+ghost use Rattle.packedterms.specs.Change.{PutBefore, AddedOnto};
+ghost use Rattle.packedterms.specs.Formula.{formula, Holds, Working};
+
+// Stores a term at the place that entry n of o names, and moves this entry to k: the coefficient x, and the word of size e in v.
+pub fn put_before(
+    x: u32,
+    v: &[u64; 9],
+    e: usize,
+    c: &mut [u32; 560],
+    l: &mut [u32; 560],
+    w: &mut [u64; 3360],
+    o: &mut [u16; 560],
+    n: usize,
+    k: usize,
+)
+    requires { ⌜ (k ≤ n) × (n < 560) × (e < 4294967296) × (getD (now o) n 0 < 560) ⌝ }
+    requires { ⌜ (length (now v) ≡ 9) × (length (now w) ≡ 3360) × (length (now o) ≡ 560) ⌝ }
+    ensures { λ _. ⌜
+        PutBefore (now (c .entry)) (now (l .entry)) (now (w .entry)) (now (o .entry)) n k x (now (v .entry)) e
+        (now (c .exit)) (now (l .exit)) (now (w .exit)) (now (o .exit))
+        ⌝ }
+{
+    let s = o[n] as usize;
+    c[s] = x;
+    l[s] = e as u32;
+    copy_place(w, s * 6, v);
+    rotate_right(o, k, n);
+}
+
+// Adds x to the coefficient of term k of n, and moves the term's entry behind those of the others where that gives 0. The answer is how many
+// terms there then are.
+pub fn add_onto(
+    t: &Table,
+    x: u32,
+    c: &mut [u32; 560],
+    o: &mut [u16; 560],
+    n: usize,
+    k: usize,
+) -> usize
+    requires { ⌜ Tabled (now t) × (x < primeIn (now t)) × (getD (now c) (getD (now o) k 0) 0 < primeIn (now t)) ⌝ }
+    requires { ⌜ (k < n) × (n ≤ 560) × (getD (now o) k 0 < 560) × (length (now o) ≡ 560) ⌝ }
+    ensures { λ r. ⌜
+        AddedOnto (fieldIn (now (t .entry)) .add x (getD (now (c .entry)) (getD (now (o .entry)) k 0) 0))
+        (now (c .entry)) (now (o .entry)) n k (now (c .exit)) (now (o .exit)) r
+        ⌝ }
+{
+    let s = o[k] as usize;
+    let p = prime_in(t);
+    let y = add(p, x, c[s]);
+    if y == 0 {
+        rotate_left(o, k, n - 1);
+        return n - 1;
+    }
+    c[s] = y;
+    n
+}
+
+// Adds a term to the formula of n terms: the coefficient x, and the word of size e in v. The answer is how many terms there then are.
+pub fn add_term(
+    t: &Table,
+    x: u32,
+    v: &[u64; 9],
+    e: usize,
+    c: &mut [u32; 560],
+    l: &mut [u32; 560],
+    w: &mut [u64; 3360],
+    o: &mut [u16; 560],
+    n: usize,
+) -> usize
+    requires { ⌜ Tabled (now t) × (x < primeIn (now t)) × (n < 560) × Built (now t) e (now v) ⌝ }
+    requires { ⌜ Working (now t) (now c) (now l) (now w) (now o) n ⌝ }
+    ensures { λ r. ⌜ (r ≤ n + 1) × Holds (now (t .entry)) (now (c .exit)) (now (l .exit)) (now (w .exit)) (now (o .exit)) r ⌝ }
+    ensures { λ r. ⌜
+        formula (now (t .entry)) (now (c .exit)) (now (l .exit)) (now (w .exit)) (now (o .exit)) r
+        ≡ insert (fieldIn (now (t .entry))) (orderIn (now (t .entry))) (single x (wordOf (now (t .entry)) e (now (v .entry))))
+        (formula (now (t .entry)) (now (c .entry)) (now (l .entry)) (now (w .entry)) (now (o .entry)) n)
+        ⌝ }
+{
+    let f = find(v, e, l, w, o, n);
+    if f.present {
+        return add_onto(t, x, c, o, n, f.index);
+    }
+    if x == 0 {
+        return n;
+    }
+    put_before(x, v, e, c, l, w, o, n, f.index);
+    n + 1
+}
