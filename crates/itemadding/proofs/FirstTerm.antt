@@ -1,0 +1,74 @@
+-- The first term of a multiple, added onto the term that has its word: the arrays are in written form, and the other terms are left to add.
+use mathlib.Core.Path.{_≡_, refl, sym, ap, _∙_}
+use mathlib.Core.Logic.{_≢_}
+use mathlib.Core.List.{List, [], _∷_}
+use Prim.Native.Nat.{ℕ, _+_, _-_, _≤_, _<_}
+use native.Mathlib.Decide.{decLt}
+use native.Mathlib.Omega.{arith}
+use lib.ListN.{getD}
+use Rattle.words.specs.Word.{Word, around}
+use Rattle.words.proofs.Admissible.{order-refl}
+use Rattle.algebra.specs.Poly.{Term, Poly}
+use Rattle.algebra.specs.Groebner.{lead}
+use Rattle.algebra.specs.Written.{insert, plus}
+use Rattle.working.specs.Working.{terms}
+use Rattle.working.specs.Change.{single}
+use Rattle.working.proofs.Terms.{terms-next, terms-end}
+use Rattle.termadding.proofs.Inserted.{insert-equal}
+use Rattle.table.specs.Polynomials.{wordIn, termIn}
+use Rattle.table.specs.Table.{fieldIn, orderIn, coefIn}
+use Rattle.table.specs.Tabled.{Tabled}
+use Rattle.packedterms.specs.Change.{AddedOnto}
+use Rattle.packedterms.specs.Formula.{wordAt, termAt, formula, Holds, Working}
+use Rattle.packedterms.proofs.Places.{words-fall}
+use Rattle.packedterms.proofs.SameWord.{onto-holds, onto-formula}
+use Rattle.itemadding.specs.LeadPlace.{LeadPlace}
+use Rattle.itemadding.proofs.Sums.{rest, rest-next, inserted-working, inserted-sum}
+
+lead-first : (s : Term) (f : Poly) → lead (s ∷ f) ≡ s .word
+unfolding lead
+lead-first s f = refl
+
+-- Terms that are not zero have a first.
+pub has-term : (F : ℕ → Term) (a b : ℕ) → terms F a (b - a) ≢ [] → a < b
+has-term F a b e = go (decLt a b)
+  where
+    go : Dec (a < b) → a < b
+    go (yes q) = q
+    go (no q) = absurd (e (terms-end F a b (omega arith)))
+
+module _ (t : List ℕ) (tabled : Tabled t) (a b : ℕ) (left right : Word) (c l w o : List ℕ) (n k : ℕ) (held : Working t c l w o n) (h : k < n)
+    (at : LeadPlace (terms (termIn t) a (b - a)) left right (wordAt t l w (getD o k 0))) where
+  abbrev v : Word
+  v = wordAt t l w (getD o k 0)
+
+  some : a < b
+  some = has-term (termIn t) a b (at .some)
+
+  word-is : v ≡ around left right (wordIn t a)
+  word-is =
+      sym (at .word)
+      ∙ ap (around left right) (ap lead (terms-next (termIn t) a b some) ∙ lead-first (termIn t a) (terms (termIn t) (a + 1) (b - (a + 1))))
+
+  module _ (x y : ℕ) (q : y ≡ fieldIn t .mul x (coefIn t a)) (c' o' : List ℕ) (r : ℕ)
+      (e : AddedOnto (fieldIn t .add y (getD c (getD o k 0) 0)) c o n k c' o' r) where
+    holds : (r ≤ n) × Holds t c' l w o' r
+    holds = onto-holds t (tabled .field) c l w o n k y (held .holds) h c' o' r e
+
+    inserted : formula t c' l w o' r ≡ insert (fieldIn t) (orderIn t) (single y v) (formula t c l w o n)
+    inserted =
+        onto-formula t (tabled .field) c l w o n k y (held .holds) h c' o' r e
+        ∙ sym (insert-equal (fieldIn t) (orderIn t) (single y v) (termAt t c l w o) n k (λ j z. words-fall t c l w o n held j k z h) h
+        (order-refl (tabled .suits .admissible) v))
+
+    pub first-less : r ≤ n
+    first-less = holds .0
+
+    pub first-working : Working t c' l w o' r
+    first-working = inserted-working t tabled c l w o n held c' l w o' r (single y v) (holds .1) inserted
+
+    pub first-sum : plus (fieldIn t) (orderIn t) (formula t c' l w o' r) (rest t x left right b (a + 1))
+        ≡ plus (fieldIn t) (orderIn t) (formula t c l w o n) (rest t x left right b a)
+    first-sum =
+        inserted-sum t tabled c l w o n held c' l w o' r (single y v) (holds .1) inserted (rest t x left right b (a + 1))
+        ∙ ap (plus (fieldIn t) (orderIn t) (formula t c l w o n)) (sym (rest-next t x left right b a y v some q word-is))

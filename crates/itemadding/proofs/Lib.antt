@@ -1,0 +1,4 @@
+mod ProductWords
+mod Sums
+mod Products
+mod FirstTerm

@@ -1,0 +1,90 @@
+-- The terms of a multiple added one after the other: what is held, with those that are left added to it, is the sum.
+use mathlib.Core.Path.{_≡_, refl, sym, ap, _∙_}
+use mathlib.Core.List.{List, [], _∷_}
+use Prim.Native.Nat.{ℕ, _+_, _-_, _≤_, _<_}
+use lib.ListN.{length}
+use Rattle.words.specs.Word.{Word, around}
+use Rattle.words.specs.Order.{Order}
+use Rattle.field.specs.Field.{Operations}
+use Rattle.algebra.specs.Poly.{Term, Poly, scale, shift}
+use Rattle.algebra.specs.Written.{insert, plus}
+use Rattle.algebra.proofs.Insertion.{insert-written}
+use Rattle.working.specs.Working.{terms}
+use Rattle.working.specs.Change.{single}
+use Rattle.working.proofs.Terms.{terms-next, terms-end}
+use Rattle.table.specs.Polynomials.{wordIn, termIn}
+use Rattle.table.specs.Table.{primeIn, fieldIn, orderIn, coefIn}
+use Rattle.table.specs.Tabled.{Tabled}
+use Rattle.packedterms.specs.Formula.{formula, Holds, Working}
+
+-- k terms are held in written form, and with `rest` added they are `whole`
+pub record Adding (t c l w o : List ℕ) (k : ℕ) (rest whole : Poly) : Type 0 where
+  pub working : Working t c l w o k
+  pub sum : plus (fieldIn t) (orderIn t) (formula t c l w o k) rest ≡ whole
+
+plus-next : (K : Operations) (O : Order) (f : Poly) (s : Term) (g : Poly) → plus K O f (s ∷ g) ≡ plus K O (insert K O s f) g
+unfolding plus
+plus-next K O f s g = refl
+
+plus-end : (K : Operations) (O : Order) (f : Poly) → plus K O f [] ≡ f
+unfolding plus
+plus-end K O f = refl
+
+module _ (t : List ℕ) (x : ℕ) (left right : Word) (end : ℕ) where
+  -- the terms of the multiple from term j of the table on
+  abbrev pub rest : ℕ → Poly
+  rest j = scale (fieldIn t) x (shift left right (terms (termIn t) j (end - j)))
+
+  multiple-next : (s : Term) (g : Poly)
+      → scale (fieldIn t) x (shift left right (s ∷ g))
+      ≡ single (fieldIn t .mul x (s .coef)) (around left right (s .word)) ∷ scale (fieldIn t) x (shift left right g)
+  unfolding scale shift
+  multiple-next s g = refl
+
+  multiple-end : scale (fieldIn t) x (shift left right []) ≡ []
+  unfolding scale shift
+  multiple-end = refl
+
+  pub rest-end : (j : ℕ) → end ≤ j → rest j ≡ []
+  rest-end j h = ap (λ (g : Poly). scale (fieldIn t) x (shift left right g)) (terms-end (termIn t) j end h) ∙ multiple-end
+
+  -- the first of them, with the coefficient y and the word v
+  pub rest-next : (j y : ℕ) (v : Word) → j < end → y ≡ fieldIn t .mul x (coefIn t j) → v ≡ around left right (wordIn t j)
+      → rest j ≡ single y v ∷ rest (j + 1)
+  rest-next j y v h d e =
+      ap (λ (g : Poly). scale (fieldIn t) x (shift left right g)) (terms-next (termIn t) j end h)
+      ∙ multiple-next (termIn t j) (terms (termIn t) (j + 1) (end - (j + 1)))
+      ∙ rw (d, e)
+
+module _ (t : List ℕ) (tabled : Tabled t) (c l w o : List ℕ) (k : ℕ) where
+  -- the arrays were in written form, and a term was inserted
+  module _ (held : Working t c l w o k) (c' l' w' o' : List ℕ) (k' : ℕ) (s : Term) (f : Holds t c' l' w' o' k')
+      (d : formula t c' l' w' o' k' ≡ insert (fieldIn t) (orderIn t) s (formula t c l w o k)) where
+    pub inserted-working : Working t c' l' w' o' k'
+    inserted-working = record {
+      holds = f;
+      written = rw d (insert-written (tabled .field) (tabled .suits .admissible) s (held .written));
+    }
+
+    pub inserted-sum : (g : Poly) → plus (fieldIn t) (orderIn t) (formula t c' l' w' o' k') g ≡ plus (fieldIn t) (orderIn t) (formula t c l w o k) (s ∷ g)
+    inserted-sum g =
+        ap (λ (f : Poly). plus (fieldIn t) (orderIn t) f g) d ∙ sym (plus-next (fieldIn t) (orderIn t) (formula t c l w o k) s g)
+
+  pub adding-next : (r whole : Poly) → Adding t c l w o k r whole → (c' l' w' o' : List ℕ) (k' : ℕ) (s : Term) (r' : Poly) → r ≡ s ∷ r'
+      → Holds t c' l' w' o' k' → formula t c' l' w' o' k' ≡ insert (fieldIn t) (orderIn t) s (formula t c l w o k) → Adding t c' l' w' o' k' r' whole
+  adding-next r whole g c' l' w' o' k' s r' e f d = record {
+    working = inserted-working (g .working) c' l' w' o' k' s f d;
+    sum = inserted-sum (g .working) c' l' w' o' k' s f d r' ∙ ap (plus (fieldIn t) (orderIn t) (formula t c l w o k)) (sym e) ∙ g .sum;
+  }
+
+pub adding-end : (t c l w o : List ℕ) (k : ℕ) (r whole : Poly) → Adding t c l w o k r whole → r ≡ [] → formula t c l w o k ≡ whole
+adding-end t c l w o k r whole g e =
+    sym (ap (plus (fieldIn t) (orderIn t) (formula t c l w o k)) e ∙ plus-end (fieldIn t) (orderIn t) (formula t c l w o k)) ∙ g .sum
+
+-- what holds of the numbers at the top of a turn
+pub record Going (t : List ℕ) (p first end n i k : ℕ) (b : List ℕ) : Type 0 where
+  pub prime : p ≡ primeIn t
+  pub from : first ≤ i
+  pub low : i ≤ end
+  pub less : k + first ≤ n + i
+  pub nine : length b ≡ 9

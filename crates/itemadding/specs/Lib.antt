@@ -1,0 +1,3 @@
+-- What contracts cite of multiples of a table's polynomials.
+pub mod Fits
+pub mod LeadPlace

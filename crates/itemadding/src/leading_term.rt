@@ -1,0 +1,67 @@
+// A multiple added where the term is known that has the word of its leading term: what a step does.
+
+use crate::adding::add_terms;
+use field::arithmetic::mul;
+use packedterms::term::add_onto;
+use table::Table;
+use table::numbers::coef_in;
+use table::numbers::first_in;
+use table::numbers::prime_in;
+ghost use mathlib.Core.Path.{_≡_};
+ghost use Prim.Native.Nat.{suc, _+_, _≤_, _<_};
+ghost use lib.ListN.{length, getD};
+ghost use Rattle.algebra.specs.Poly.{scale, shift};
+ghost use Rattle.algebra.specs.Written.{plus};
+ghost use Rattle.table.specs.Polynomials.{polynomialIn};
+ghost use Rattle.table.specs.Table.{primeIn, fieldIn, orderIn, itemsIn, firstIn};
+ghost use Rattle.table.specs.Tabled.{Tabled};
+ghost use Rattle.table.specs.Words.{wordOf, Sixfold};
+ghost use Rattle.packedterms.specs.Formula.{wordAt, formula, Working};
+ghost use Rattle.itemadding.specs.Fits.{Fits};
+ghost use Rattle.itemadding.specs.LeadPlace.{LeadPlace};
+
+// Adds x × left × polynomial × right to the formula of n terms as `add_item` does, where term k has the word left × leading word × right: the leading
+// term is added onto term k without a search.
+pub fn add_onto_item(
+    t: &Table,
+    x: u32,
+    left: &[u64; 6],
+    a: usize,
+    item: usize,
+    right: &[u64; 6],
+    b: usize,
+    c: &mut [u32; 560],
+    l: &mut [u32; 560],
+    w: &mut [u64; 3360],
+    o: &mut [u16; 560],
+    n: usize,
+    k: usize,
+    buf: &mut [u64; 9],
+) -> usize
+    requires { ⌜ Tabled (now t) × (x < primeIn (now t)) × (1 ≤ item) × (item ≤ itemsIn (now t)) × (n + 48 ≤ 560) × (length (now buf) ≡ 9) ⌝ }
+    requires { ⌜
+        Sixfold (now t) a (now left) × Sixfold (now t) b (now right) × Fits (now t) a b (firstIn (now t) item) (firstIn (now t) (suc item))
+        ⌝ }
+    requires { ⌜ Working (now t) (now c) (now l) (now w) (now o) n ⌝ }
+    requires { ⌜
+        (k < n)
+        × LeadPlace (polynomialIn (now t) item) (wordOf (now t) a (now left)) (wordOf (now t) b (now right))
+        (wordAt (now t) (now l) (now w) (getD (now o) k 0))
+        ⌝ }
+    ensures { λ r. ⌜ (r ≤ n + 48) × (length (now (buf .exit)) ≡ 9) ⌝ }
+    ensures { λ r. ⌜ Working (now (t .entry)) (now (c .exit)) (now (l .exit)) (now (w .exit)) (now (o .exit)) r ⌝ }
+    ensures { λ r. ⌜
+        formula (now (t .entry)) (now (c .exit)) (now (l .exit)) (now (w .exit)) (now (o .exit)) r
+        ≡ plus (fieldIn (now (t .entry))) (orderIn (now (t .entry)))
+        (formula (now (t .entry)) (now (c .entry)) (now (l .entry)) (now (w .entry)) (now (o .entry)) n)
+        (scale (fieldIn (now (t .entry))) x
+        (shift (wordOf (now (t .entry)) a (now (left .entry))) (wordOf (now (t .entry)) b (now (right .entry))) (polynomialIn (now (t .entry)) item)))
+        ⌝ }
+{
+    let first = first_in(t, item);
+    let end = first_in(t, item + 1);
+    let p = prime_in(t);
+    let y = mul(p, x, coef_in(t, first));
+    let r = add_onto(t, y, c, o, n, k);
+    add_terms(t, x, left, a, first + 1, end, right, b, c, l, w, o, r, buf)
+}
