@@ -1,4 +1,4 @@
--- Laws of the bits of masks: of both masks, of either, of one bit more, and of all 64 bits.
+-- Laws of the bits of masks: of both masks, of either, of one bit more, and of all bits.
 use mathlib.Core.Path.{_≡_, refl, sym, ap, _∙_}
 use mathlib.Core.Logic.{_⊎_, inl, inr}
 use Prim.Native.Nat.{ℕ, zero, suc, _+_, _-_, _*_, _/_, _%_, _^_, _≤_, _<_, min, max}
@@ -91,14 +91,14 @@ module _ (m g : ℕ) where
   pub bit-old : (j : ℕ) → (j ≡ g → ⊥) → bit (bitOr m (2 ^ g)) j ≡ 1 → bit m j ≡ 1
   bit-old j d h = let s = bit-or m (2 ^ g) j in let e = pow-other g j d in omega arith
 
--- the mask of all 64 bits has each
-pub bit-all : (g : ℕ) → g < 64 → bit 18446744073709551615 g ≡ 1
-bit-all g h =
-    let e : 64 - g + g ≡ 64 = omega arith in
-    let s : 18446744073709551615 ≡ (2 ^ (64 - g) - 1) * 2 ^ g + (2 ^ g - 1) = ap (λ (n : ℕ). 2 ^ n - 1) (sym e) ∙ ones-split (64 - g) g in
-    let q : 18446744073709551615 / 2 ^ g ≡ 2 ^ (64 - g) - 1 = ap (λ (n : ℕ). n / 2 ^ g) s ∙ high (2 ^ (64 - g) - 1) g (ones-lt g) in
-    let y = pow-even (64 - g) (omega arith) in
-    let z : 0 < 2 ^ (64 - g - 1) = pow-pos (64 - g - 1) in
+-- the mask of all n bits has each
+pub bit-all : (n g : ℕ) → g < n → bit (2 ^ n - 1) g ≡ 1
+bit-all n g h =
+    let e : n - g + g ≡ n = omega arith in
+    let s : 2 ^ n - 1 ≡ (2 ^ (n - g) - 1) * 2 ^ g + (2 ^ g - 1) = ap (λ (m : ℕ). 2 ^ m - 1) (sym e) ∙ ones-split (n - g) g in
+    let q : (2 ^ n - 1) / 2 ^ g ≡ 2 ^ (n - g) - 1 = ap (λ (m : ℕ). m / 2 ^ g) s ∙ high (2 ^ (n - g) - 1) g (ones-lt g) in
+    let y = pow-even (n - g) (omega arith) in
+    let z : 0 < 2 ^ (n - g - 1) = pow-pos (n - g - 1) in
     omega arith
 
 -- 1 shifted by g, as the machine has it

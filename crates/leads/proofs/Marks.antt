@@ -1,42 +1,17 @@
 -- Laws of the table in the making: what a mark more does to it, one law for each way through the turns of `fill_word` and `fill`.
 use mathlib.Core.Path.{_≡_, sym, ap, _∙_}
 use mathlib.Core.List.{List, []}
-use Prim.Native.Nat.{ℕ, _+_, _*_, _^_, _≤_, _<_}
+use Prim.Native.Nat.{ℕ, _+_, _*_, _≤_, _<_}
 use native.Mathlib.Decide.{ℕ-discrete}
 use native.Mathlib.Nat.{add-zero}
 use native.Mathlib.Omega.{arith}
 use lib.ListN.{length, getD, length-set}
-use lib.Seq.{getD-set-same, getD-set-other}
-use lib.Bits.{bitOr}
 use Rattle.words.specs.Word.{Word}
-use Rattle.leads.specs.Masks.{bit}
-use Rattle.leads.specs.Index.{column, columnIn, Marked, HasMark, withMark, Blank, Indexable, Indexed, IndexHolds}
-use Rattle.leads.proofs.Bits.{bit-zero, bit-new, bit-kept, bit-old}
+use Rattle.leads.specs.Masks.{withMark}
+use Rattle.leads.specs.Index.{column, columnIn, Marked, HasMark, Blank, Indexable, Indexed, IndexHolds}
+use Rattle.leads.proofs.Bits.{bit-zero}
+use Rattle.leads.proofs.OneMark.{mark-new, mark-kept, mark-elsewhere, mark-of-other}
 use Rattle.leads.proofs.Columns.{column-range, column-at, column-behind}
-
--- a mark more, at a place of the table: it is there, the others are kept, and there is no other
-module _ (t : List ℕ) (at g : ℕ) (inside : at < length t) where
-  at-same : (i : ℕ) → i ≡ at → getD (withMark t at g) i 0 ≡ bitOr (getD t i 0) (2 ^ g)
-  at-same i e = rw e (getD-set-same t at (bitOr (getD t at 0) (2 ^ g)) 0 inside)
-
-  at-other : (i : ℕ) → (i ≡ at → ⊥) → getD (withMark t at g) i 0 ≡ getD t i 0
-  at-other i e = getD-set-other t at i (bitOr (getD t at 0) (2 ^ g)) 0 e
-
-  mark-new : (i : ℕ) → i ≡ at → bit (getD (withMark t at g) i 0) g ≡ 1
-  mark-new i e = rw (at-same i e) (bit-new (getD t i 0) g)
-
-  mark-kept : (i j : ℕ) → bit (getD t i 0) j ≡ 1 → bit (getD (withMark t at g) i 0) j ≡ 1
-  mark-kept i j b = go (ℕ-discrete i at)
-    where
-      go : Dec (i ≡ at) → bit (getD (withMark t at g) i 0) j ≡ 1
-      go (yes e) = rw (at-same i e) (bit-kept (getD t i 0) g j b)
-      go (no e) = rw (at-other i e) b
-
-  mark-elsewhere : (i j : ℕ) → (i ≡ at → ⊥) → bit (getD (withMark t at g) i 0) j ≡ 1 → bit (getD t i 0) j ≡ 1
-  mark-elsewhere i j e b = rw (at-other i e) at b
-
-  mark-of-other : (i j : ℕ) → i ≡ at → (j ≡ g → ⊥) → bit (getD (withMark t at g) i 0) j ≡ 1 → bit (getD t i 0) j ≡ 1
-  mark-of-other i j e d b = bit-old (getD t i 0) g j d (rw (at-same i e) at b)
 
 -- a blank table holds no row
 pub holds-start : {ls : List Word} {t : List ℕ} → Blank t → IndexHolds ls 0 t

@@ -1,4 +1,4 @@
--- Laws of the search, place after place: one for each way through a turn of `leftmost_lead`.
+-- Laws of the search, place after place: one for each way through a turn of the loop over the places.
 use mathlib.Core.Path.{_≡_, refl}
 use mathlib.Core.Bool.{true}
 use mathlib.Core.Option.{none, some}
@@ -51,17 +51,14 @@ unfolding spotOfWords
 spot-start ls w = refl
 
 -- the part of w from place i on is what follows its first i letters
-begun-rest : (ls : List Word) (w : Word) (i m : ℕ) → BegunBy ls (take (length w - i) (drop i w)) m → BegunBy ls (drop i w) m
+pub begun-rest : (ls : List Word) (w : Word) (i m : ℕ) → BegunBy ls (take (length w - i) (drop i w)) m → BegunBy ls (drop i w) m
 begun-rest ls w i m b =
     let e = length-drop i w in
     let z : take (length w - i) (drop i w) ≡ drop i w = take-all (length w - i) (drop i w) (omega arith) in
     rw z at b
 
 -- the turn at place i, where m is the mask of the words that stand there
-module _ (ls : List Word) (w : Word) (i m : ℕ) (part : BegunBy ls (take (length w - i) (drop i w)) m) where
-  b : BegunBy ls (drop i w) m
-  b = begun-rest ls w i m part
-
+module _ (ls : List Word) (w : Word) (i m : ℕ) (b : BegunBy ls (drop i w) m) where
   -- a word stands here
   pub spot-here : (g : ℕ) → LowestBit m g → spotOfWordsFrom ls (drop i w) i ≡ found i (g + 1)
   spot-here g l = spot-some ls (drop i w) i (g + 1) (first-lowest ls (drop i w) m g b l)

@@ -40,7 +40,7 @@ module _ {ls : List Word} {t : List ℕ} {v : Word} (i : Indexed ls t) where
     whole = λ g b. absurd (bit-zero g b);
     long = λ g h b. omega arith;
     agree = λ g h b. refl;
-    kept = λ g h e. inr (bit-all g (let f = i .words .few in omega arith));
+    kept = λ g h e. inr (bit-all 64 g (let f = i .words .few in omega arith));
   }
 
   module _ {k left begun : ℕ} (few : k < 25) (s : Sieve ls v k left begun) where

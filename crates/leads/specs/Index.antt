@@ -2,10 +2,9 @@
 use mathlib.Core.Path.{_≡_}
 use mathlib.Core.Bool.{true, false}
 use mathlib.Core.List.{List, [], _∷_}
-use Prim.Native.Nat.{ℕ, zero, suc, _+_, _-_, _*_, _^_, _≤_, _<_}
+use Prim.Native.Nat.{ℕ, zero, suc, _+_, _-_, _*_, _≤_, _<_}
 use lib.Dec.{ltb}
-use lib.ListN.{length, getD, set}
-use lib.Bits.{bitOr}
+use lib.ListN.{length, getD}
 use Rattle.lists.specs.All.{All}
 use Rattle.words.specs.Word.{Word, Letter}
 use Rattle.leads.specs.Masks.{bit}
@@ -29,10 +28,6 @@ pub record Marked (b : Word) (k x : ℕ) : Type 0 where
 -- The table has word g's mark in row k at column x.
 abbrev pub HasMark : List ℕ → ℕ → ℕ → ℕ → Type 0
 HasMark t g k x = bit (getD t (k * 32 + x) 0) g ≡ 1
-
--- The table with word g's mark at a place.
-abbrev pub withMark : List ℕ → ℕ → ℕ → List ℕ
-withMark t at g = set t at (bitOr (getD t at 0) (2 ^ g))
 
 -- A table without marks.
 pub record Blank (t : List ℕ) : Type 0 where

@@ -1,21 +1,11 @@
 // The table of the leading words, made once a call from zeros.
 
 use crate::masks::column;
-use crate::masks::with_bit;
-ghost use mathlib.Core.Path.{_≡_};
+use crate::masks::mark;
 ghost use Prim.Native.Nat.{_≤_, _<_};
 ghost use lib.ListN.{length};
 ghost use Rattle.words.specs.Laid.{Laid, laidWords};
-ghost use Rattle.leads.specs.Index.{withMark, Blank, Indexable, Indexed, RowsDone};
-
-// Word g is marked at one place of the table.
-pub fn mark(index: &mut [u64], at: usize, g: usize)
-    requires { ⌜ g < 64 ⌝ }
-    requires { ⌜ at < length (now index) ⌝ }
-    ensures { λ _. ⌜ now (index .exit) ≡ withMark (now (index .entry)) at g ⌝ }
-{
-    index[at] = with_bit(index[at], g);
-}
+ghost use Rattle.leads.specs.Index.{Blank, Indexable, Indexed, RowsDone};
 
 // Word g is marked in a row for each of its letters, and in the row behind the last.
 pub fn fill_word(word: &[u8], g: usize, index: &mut [u64])

@@ -2,8 +2,9 @@
 
 ghost use mathlib.Core.Path.{_≡_};
 ghost use Prim.Native.Nat.{_^_, _<_};
+ghost use lib.ListN.{length};
 ghost use lib.Bits.{bitOr};
-ghost use Rattle.leads.specs.Masks.{LowestBit};
+ghost use Rattle.leads.specs.Masks.{LowestBit, withMark};
 ghost use Rattle.leads.specs.Index.{column};
 
 // The mask with bit g as well.
@@ -12,6 +13,15 @@ pub fn with_bit(m: u64, g: usize) -> u64
     ensures { λ r. ⌜ r ≡ bitOr m (2 ^ g) ⌝ }
 {
     m | (1 << g)
+}
+
+// Word g is marked in one of the masks.
+pub fn mark(index: &mut [u64], at: usize, g: usize)
+    requires { ⌜ g < 64 ⌝ }
+    requires { ⌜ at < length (now index) ⌝ }
+    ensures { λ _. ⌜ now (index .exit) ≡ withMark (now (index .entry)) at g ⌝ }
+{
+    index[at] = with_bit(index[at], g);
 }
 
 // The lowest bit of a mask that has one.

@@ -7,7 +7,7 @@ use lib.ListN.{length, drop}
 use Rattle.words.specs.Word.{Word}
 use Rattle.leads.specs.Index.{Indexed}
 use Rattle.leads.specs.SpotOfWords.{seen, spotOfWordsFrom, spotOfWords}
-use Rattle.leads.proofs.Places.{spot-start, spot-here, spot-later, spot-end}
+use Rattle.leads.proofs.Places.{begun-rest, spot-start, spot-here, spot-later, spot-end}
 use borrow.Author.Needs.{needs}
 use Rattle.leads.proofs.finding.leftmost_lead.Statement.{statement}
 use Rattle.leads.proofs.finding.leftmost_lead.Tie as tie
@@ -45,7 +45,7 @@ returns c =
     let w = c .before .before .before .before .before .before .before .args .w .now in
     let m = c .before .before .before .before .loop in
     let b = c .before .before .begun-by .ensures in
-    λ ls i. sym (spot-here ls w (m .i) _ (b ls i) _ (c .lowest .ensures .1)) ∙ m .inv .1 ls i
+    λ ls i. sym (spot-here ls w (m .i) _ (begun-rest ls w (m .i) _ (b ls i)) _ (c .lowest .ensures .1)) ∙ m .inv .1 ls i
 
 returns-2 : tie.Need-returns-2 Inv-loop μ-loop
 unfolding seen
@@ -53,7 +53,7 @@ returns-2 c =
     let w = c .before .before .before .before .before .before .before .args .w .now in
     let m = c .before .before .before .before .loop in
     let b = c .before .before .begun-by .ensures in
-    λ ls i. sym (spot-end ls w (m .i) _ (b ls i) (c .before .if1 .left) (c .if2 .taken)) ∙ m .inv .1 ls i
+    λ ls i. sym (spot-end ls w (m .i) _ (begun-rest ls w (m .i) _ (b ls i)) (c .before .if1 .left) (c .if2 .taken)) ∙ m .inv .1 ls i
 
 add-i : tie.Need-add-i Inv-loop μ-loop
 add-i c = search needs
@@ -66,7 +66,7 @@ loop-again c =
     let w = c .before .before .before .before .before .before .before .args .w .now in
     let m = c .before .before .before .before .loop in
     let b = c .before .before .begun-by .ensures in
-    (search needs, λ ls i. spot-later ls w (m .i) _ (b ls i) (c .before .if1 .left) (omega arith) ∙ m .inv .1 ls i)
+    (search needs, λ ls i. spot-later ls w (m .i) _ (begun-rest ls w (m .i) _ (b ls i)) (c .before .if1 .left) (omega arith) ∙ m .inv .1 ls i)
 
 pub leftmost-lead-spec : {M : Type 1} → statement M
 leftmost-lead-spec =

@@ -1,9 +1,9 @@
--- `mark` is the table with one mark more.
+-- `mark` is the masks with one mark more.
 use mathlib.Core.Path.{ap}
 use lib.ListN.{set}
 use borrow.Author.Needs.{needs}
-use Rattle.leads.proofs.filling.mark.Statement.{statement}
-use Rattle.leads.proofs.filling.mark.Tie as tie
+use Rattle.leads.proofs.masks.mark.Statement.{statement}
+use Rattle.leads.proofs.masks.mark.Tie as tie
 
 mul-with-bit : tie.Need-mul-with-bit
 mul-with-bit c = search needs
