@@ -1,0 +1,7 @@
+mod EvenSizes
+mod CutWords
+mod StepLaws
+mod NoneFound
+mod TargetLaws
+mod Advances
+mod Progress

@@ -1,0 +1,95 @@
+-- A step at a term of the formula: its word is cut, the products fit a place, and what is taken away is the step's line.
+use mathlib.Core.Path.{_≡_, _∙_, ap₂}
+use mathlib.Core.Logic.{inl}
+use mathlib.Core.List.{List}
+use Prim.Native.Nat.{ℕ, suc, _+_, _-_, _*_, _%_, _≤_, _<_}
+use native.Mathlib.Decide.{decLt}
+use native.Mathlib.Omega.{arith}
+use lib.ListN.{length, getD, length-map}
+use Rattle.lists.proofs.Parts.{part-length}
+use Rattle.words.specs.Word.{Word}
+use Rattle.algebra.specs.Poly.{Term, Poly, scale, shift}
+use Rattle.algebra.specs.Written.{Written, plus}
+use Rattle.algebra.specs.Ideal.{family}
+use Rattle.algebra.specs.Spot.{spot, found}
+use Rattle.algebra.specs.Steps.{takeAway, lineAt, stepped}
+use Rattle.algebra.proofs.Spots.{spot-found}
+use Rattle.working.proofs.Families.{family-written}
+use Rattle.working.proofs.Falling.{written-falls}
+use Rattle.running.proofs.NotLonger.{le-length}
+use Rattle.packedwords.specs.Packed.{unpacked}
+use Rattle.packedwords.proofs.Packing.{unpacked-length}
+use Rattle.table.specs.Table.{gensIn, fieldIn, orderIn, letterIn, firstIn, sizeIn, blocksIn}
+use Rattle.table.specs.Words.{wordOf, Sixfold}
+use Rattle.table.specs.Polynomials.{wordIn, termIn, polynomialIn, basisIn}
+use Rattle.table.specs.Tabled.{Tabled}
+use Rattle.packedterms.specs.Formula.{blocksAt, Working}
+use Rattle.packedterms.proofs.Places.{term-place}
+use Rattle.itemadding.specs.Fits.{Fits}
+use Rattle.itemadding.specs.LeadPlace.{LeadPlace}
+use Rattle.packedsteps.specs.Cuts.{CutAt}
+use Rattle.packedsteps.specs.Lines.{LineTaken}
+use Rattle.packedsteps.specs.declared.Cut.{Cut}
+use Rattle.table.proofs.LeadingTerms.{LeadTerm}
+
+-- The six blocks of a term's place hold its word.
+pub term-held : (t c l w o : List ℕ) (n : ℕ) → Working t c l w o n → (k : ℕ) → k < n → Sixfold t (getD l (getD o k 0) 0) (blocksAt w (getD o k 0))
+term-held t c l w o n W k h =
+    let s = getD o k 0 in
+    let inside = term-place t c l w o n (W .holds) k h in
+    let room = W .holds .room .blocks in
+    let six = part-length (s * 6) 6 w (omega arith) in
+    let held = W .holds .held k h in
+    let fits = held .packs .fits in
+    record { six = six; short = omega (arith, six); held = held }
+
+-- No word of a basis polynomial is longer than its leading word.
+module _ (t : List ℕ) (T : Tabled t) (g : ℕ) (L : LeadTerm t g) where
+  letters-in : (i : ℕ) → length (wordIn t i) ≡ sizeIn t i % 256
+  letters-in i = length-map (unpacked (sizeIn t i % 256) (blocksIn t i)) (letterIn t) ∙ unpacked-length (sizeIn t i % 256) (blocksIn t i)
+
+  polynomial-written : Written (fieldIn t) (orderIn t) (polynomialIn t (gensIn t + g))
+  polynomial-written = rw (L .polynomial) at (family-written (fieldIn t) (orderIn t) (basisIn t) (T .basis-written) g)
+
+  none-longer : (i : ℕ) → firstIn t (gensIn t + g) ≤ i → i < firstIn t (suc (gensIn t + g)) → sizeIn t i % 256 ≤ sizeIn t (firstIn t (gensIn t + g)) % 256
+  none-longer i lo hi = go (decLt first i)
+    where
+      first : ℕ
+      first = firstIn t (gensIn t + g)
+
+      go : Dec (firstIn t (gensIn t + g) < i) → sizeIn t i % 256 ≤ sizeIn t (firstIn t (gensIn t + g)) % 256
+      go (no h) = let e : i ≡ firstIn t (gensIn t + g) = omega arith in rw e (omega arith)
+      go (yes h) =
+          let below = written-falls (fieldIn t) (orderIn t) (termIn t) (firstIn t (gensIn t + g)) (firstIn t (suc (gensIn t + g)) - firstIn t (gensIn t + g)) polynomial-written (firstIn t (gensIn t + g)) i (omega arith) h (omega arith) in
+          let short = le-length (wordIn t i) (wordIn t (firstIn t (gensIn t + g))) (inl below) in
+          let a = letters-in i in
+          let b = letters-in (firstIn t (gensIn t + g)) in
+          omega arith
+
+  -- So the products of a step fit where the word that is cut did.
+  pub step-fits : {v : Word} {z i : ℕ} {r : Cut} {left right : List ℕ} → CutAt t v z i g r left right → z % 256 ≤ 72
+      → Fits t (r .left) (r .right) (firstIn t (gensIn t + g)) (firstIn t (suc (gensIn t + g)))
+  step-fits C short = record { short = λ i lo hi. let e = C .letters in let m = none-longer i lo hi in omega arith }
+
+module _ (t : List ℕ) (u : Term) (z i g : ℕ) (r : Cut) (left right : List ℕ) (C : CutAt t (u .word) z i g r left right)
+    (found-at : spot (basisIn t) (u .word) ≡ found i g) where
+  -- The word is left × leading word × right.
+  pub step-place : family (basisIn t) g ≡ polynomialIn t (gensIn t + g)
+      → LeadPlace (polynomialIn t (gensIn t + g)) (wordOf t (r .left) left) (wordOf t (r .right) right) (u .word)
+  step-place e =
+      let at = spot-found (basisIn t) (u .word) i g found-at in
+      record { some = λ z. at .0 (e ∙ z); word = rw (C .left-word, C .right-word, ← e) (at .1) }
+
+  pub step-line : LineTaken t u i g (u .coef) (r .left) left (r .right) right
+  unfolding lineAt
+  step-line = record {
+    left-held = C .left-held;
+    right-held = C .right-held;
+    line = ap₂ (λ (x y : Word). record { coef = u .coef; left = x; of = g; right = y }) (C .left-word) (C .right-word);
+  }
+
+  pub step-sum : (f : Poly) (y : ℕ) → y ≡ fieldIn t .neg (u .coef) → family (basisIn t) g ≡ polynomialIn t (gensIn t + g)
+      → plus (fieldIn t) (orderIn t) f (scale (fieldIn t) y (shift (wordOf t (r .left) left) (wordOf t (r .right) right) (polynomialIn t (gensIn t + g))))
+      ≡ stepped (fieldIn t) (orderIn t) (basisIn t) f u i g
+  unfolding stepped takeAway lineAt
+  step-sum f y e p = rw (e, C .left-word, C .right-word, ← p)

@@ -1,0 +1,128 @@
+-- `step` takes the line of the step away.
+use mathlib.Core.Path.{refl, _∙_, ap}
+use Prim.Native.Nat.{ℕ, _<_}
+use native.Mathlib.Omega.{arith}
+use lib.ListN.{getD}
+use Rattle.field.specs.Field.{fieldOf}
+use Rattle.algebra.proofs.Spots.{spot-found}
+use Rattle.table.specs.Polynomials.{basisIn}
+use Rattle.packedterms.specs.Formula.{wordAt, termAt}
+use Rattle.packedterms.proofs.Places.{term-place, coef-small}
+use Rattle.packedsteps.specs.Cuts.{CutAt}
+use Rattle.table.proofs.LeadingTerms.{LeadTerm, lead-term}
+use Rattle.packedsteps.proofs.StepLaws.{term-held, step-fits, step-place, step-line, step-sum}
+use borrow.Author.Needs.{needs}
+use Rattle.packedsteps.proofs.step.step.Statement.{statement}
+use Rattle.packedsteps.proofs.step.step.Tie as tie
+
+-- the term's place
+place : (s : tie.Start) → getD (s .args .o .now) (s .args .k) 0 < 560
+place s = term-place (s .args .t .now) (s .args .c .now) (s .args .l .now) (s .args .w .now) (s .args .o .now) (s .args .n) (s .pre .0 .1 .holds) (s .args .k) (s .pre .0 .2)
+
+-- what the start says of the polynomial
+leading : (s : tie.Start) → LeadTerm (s .args .t .now) (s .args .of)
+leading s = lead-term (s .args .t .now) (s .pre .0 .0) (s .args .of) (spot-found (basisIn (s .args .t .now)) _ (s .args .i) (s .args .of) (s .pre .1 .1) .0)
+
+-- from the cut back to the start
+abbrev start : tie.After-cut → tie.Start
+start x = x .before .before .before .before .before .before .before .before .before .before
+
+-- the cut is one of the term's word
+cut-at : (x : tie.After-cut)
+    → CutAt (start x .args .t .now) (wordAt (start x .args .t .now) (start x .args .l .now) (start x .args .w .now) (getD (start x .args .o .now) (start x .args .k) 0))
+    (getD (start x .args .l .now) (getD (start x .args .o .now) (start x .args .k) 0) 0) (start x .args .i) (start x .args .of) (x .cut .result) (x .cut .last .1 .1 .1 .1 .1 .0) (x .cut .last .1 .1 .1 .1 .1 .1 .0)
+cut-at x = rw (x .before .before .before .wide .ensures, x .before .before .before .before .before .before .take-place .ensures) at (x .cut .ensures)
+
+mul-s : tie.Need-mul-s
+mul-s c = search needs
+
+element-copy-out-s : tie.Need-element-copy-out-s
+element-copy-out-s c = search needs
+
+cast-s : tie.Need-cast-s
+cast-s c = let h = place (c .before) in record { fits = omega arith }
+
+take-place-requires : tie.Need-take-place-requires
+take-place-requires c κs = let s = c .before .before .before in (place s, s .pre .0 .1 .holds .room .blocks, refl)
+
+mul-wide : tie.Need-mul-wide
+mul-wide c = let h = place (c .before .before .before .before .before) in record { fits = omega arith }
+
+element-copy-out-wide : tie.Need-element-copy-out-wide
+element-copy-out-wide c = place (c .before .before .before .before .before)
+
+wide-requires : tie.Need-wide-requires
+wide-requires c κs = search needs
+
+cut-requires : tie.Need-cut-requires
+cut-requires c κs =
+    let s = c .before .before .before .before .before .before .before .before .before in
+    let a = s .args in
+    rw (c .before .before .wide .ensures, c .before .before .before .before .before .take-place .ensures)
+    ((s .pre .0 .0, term-held (a .t .now) (a .c .now) (a .l .now) (a .w .now) (a .o .now) (a .n) (s .pre .0 .1) (a .k) (s .pre .0 .2), s .pre .1 .0 .0, s .pre .1 .0 .1), s .pre .1 .1)
+
+mul-x : tie.Need-mul-x
+mul-x c = let h = place (c .before .before .before .before .before .before .before .before .before .before) in record { fits = omega arith }
+
+element-copy-out-x : tie.Need-element-copy-out-x
+element-copy-out-x c = place (c .before .before .before .before .before .before .before .before .before .before)
+
+prime-in-requires : tie.Need-prime-in-requires
+prime-in-requires c κs = search needs
+
+neg-requires : tie.Need-neg-requires
+neg-requires c κs =
+    let s = c .before .before .before .before .before .before .before .before .before .before .before .before in
+    let a = s .args in
+    rw (c .prime-in .ensures) (s .pre .0 .0 .prime, coef-small (a .t .now) (a .c .now) (a .l .now) (a .w .now) (a .o .now) (a .n) (s .pre .0 .1) (a .k) (s .pre .0 .2))
+
+add-onto-item-requires : tie.Need-add-onto-item-requires
+add-onto-item-requires c κs =
+    let x = c .before .before .before .before .before .before .before .before .before .before in
+    let s = start x in
+    let C = cut-at x in
+    let L = leading s in
+    let n = c .before .before .before .before .before .before .before in
+    let held = term-held (s .args .t .now) (s .args .c .now) (s .args .l .now) (s .args .w .now) (s .args .o .now) (s .args .n) (s .pre .0 .1) (s .args .k) (s .pre .0 .2) in
+    let lo = C .some in
+    let hi = C .most in
+    let small = rw (n .before .prime-in .ensures) at (n .neg .ensures .1) in
+    rw (C .item) (
+      (s .pre .0 .0, small, omega arith, omega arith, s .pre .0 .3, s .pre .1 .0 .2),
+      (
+        (C .left-held, C .right-held, step-fits (s .args .t .now) (s .pre .0 .0) (s .args .of) L C (held .short)),
+        (s .pre .0 .1, (s .pre .0 .2, step-place (s .args .t .now) (termAt (s .args .t .now) (s .args .c .now) (s .args .l .now) (s .args .w .now) (s .args .o .now) (s .args .k)) _ (s .args .i) (s .args .of) (x .cut .result) _ _ C (s .pre .1 .1) (L .polynomial))),
+      ),
+    )
+
+returns : tie.Need-returns
+returns c =
+    let x = c .before .before .before .before .before .before .before .before .before .before .before in
+    let s = start x in
+    let C = cut-at x in
+    let L = leading s in
+    let n = c .before .before .before .before .before .before .before .before in
+    let u = termAt (s .args .t .now) (s .args .c .now) (s .args .l .now) (s .args .w .now) (s .args .o .now) (s .args .k) in
+    let y = n .neg .ensures .0 ∙ ap (λ (p : ℕ). fieldOf p .neg (u .coef)) (n .before .prime-in .ensures) in
+    let e = c .add-onto-item .ensures in
+    let sum = step-sum (s .args .t .now) u _ (s .args .i) (s .args .of) (x .cut .result) _ _ C (s .pre .1 .1) _ (n .neg .result) y (L .polynomial) in
+    (e .0, (e .1 .0, ((rw (C .item) at (e .1 .1)) ∙ sum, step-line (s .args .t .now) u _ (s .args .i) (s .args .of) (x .cut .result) _ _ C (s .pre .1 .1))))
+
+pub step-spec : {M : Type 1} → statement M
+step-spec =
+    tie.close
+    (tie.spec
+    mul-s
+    element-copy-out-s
+    cast-s
+    take-place-requires
+    mul-wide
+    element-copy-out-wide
+    wide-requires
+    cut-requires
+    mul-x
+    element-copy-out-x
+    prime-in-requires
+    neg-requires
+    add-onto-item-requires
+    returns)

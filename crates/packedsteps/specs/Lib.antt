@@ -1,0 +1,5 @@
+pub mod Cuts
+pub mod Lines
+pub mod Search
+pub mod Advance
+pub mod Outcome
