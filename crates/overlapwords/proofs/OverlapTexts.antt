@@ -10,15 +10,15 @@ use Rattle.lists.proofs.Parts.{drop-take}
 use Rattle.field.specs.Field.{Operations, Field}
 use Rattle.words.specs.Word.{Word, around}
 use Rattle.words.specs.Order.{Order, Admissible}
-use Rattle.words.specs.Laid.{laidWord, laidWords, Laid}
+use Rattle.words.specs.Laid.{laidWord}
 use Rattle.words.proofs.LaidWords.{laid-at}
-use Rattle.algebra.specs.Poly.{Term, Poly, scale, shift, sub}
-use Rattle.algebra.specs.Ideal.{Family, family, Line}
+use Rattle.algebra.specs.Poly.{Poly, scale, shift, sub}
+use Rattle.algebra.specs.Ideal.{Family, family}
 use Rattle.algebra.specs.Groebner.{lead, top}
 use Rattle.algebra.specs.Written as Wr
 use Rattle.algebra.proofs.WrittenForm.{written-multiple, written-of-written}
 use Rattle.algebra.specs.Written.{Written, plus, written}
-use Rattle.overlaps.specs.Overlaps.{Overlap, leads, overlapWord, difference}
+use Rattle.overlaps.specs.Overlaps.{Overlap, overlapWord, difference}
 use Rattle.overlaps.specs.Position.{overlapOf}
 use Rattle.overlaps.proofs.Certification.{lead-of}
 use Rattle.words.specs.Below.{isBelow}
@@ -30,11 +30,11 @@ use Rattle.sumlines.specs.Lines.{takenLine}
 use Rattle.overlapwords.specs.OverlapPlaces.{cursorOf, laidOverlap, laidTop}
 
 -- the rest of a word behind k letters
-rest-part : (bytes : List ℕ) (s n k : ℕ) → take (n - k) (drop (s + k) bytes) ≡ drop k (take n (drop s bytes))
+pub rest-part : (bytes : List ℕ) (s n k : ℕ) → take (n - k) (drop (s + k) bytes) ≡ drop k (take n (drop s bytes))
 rest-part bytes s n k = sym (drop-take k n (drop s bytes) ∙ ap (λ (l : List ℕ). take (n - k) l) (drop-drop k s bytes))
 
 -- a word without its last k letters
-front-part : (bytes : List ℕ) (s n k : ℕ) → s + n ≤ length bytes
+pub front-part : (bytes : List ℕ) (s n k : ℕ) → s + n ≤ length bytes
     → take (n - k) (drop s bytes) ≡ take (length (take n (drop s bytes)) - k) (take n (drop s bytes))
 front-part bytes s n k h =
     let e : length (take n (drop s bytes)) ≡ n = simp (length-take, length-drop) (omega arith) in

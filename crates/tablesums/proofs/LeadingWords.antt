@@ -1,0 +1,44 @@
+-- The leading words of the basis as they are laid in the bytes.
+use mathlib.Core.Path.{_≡_, refl, sym, ap, _∙_}
+use mathlib.Core.Logic.{_≢_}
+use mathlib.Core.List.{List, []}
+use Prim.Native.Nat.{ℕ, zero, suc, _+_, _-_, _≤_, _<_}
+use native.Mathlib.Omega.{arith}
+use lib.ListN.{length, getD}
+use Rattle.words.specs.Word.{Word}
+use Rattle.words.specs.Laid.{laidWord}
+use Rattle.words.proofs.LaidWords.{laid-at, laid-word-length}
+use Rattle.algebra.specs.Poly.{Term, Poly}
+use Rattle.algebra.specs.Groebner.{lead}
+use Rattle.algebra.specs.Ideal.{family}
+use Rattle.working.specs.Working.{terms}
+use Rattle.overlaps.proofs.Certification.{lead-of}
+use Rattle.overlapwords.specs.declared.OverlapAt.{OverlapAt}
+use Rattle.overlapwords.specs.OverlapPlaces.{Overlapped}
+use Rattle.table.specs.Polynomials.{wordIn, termIn, basisIn}
+use Rattle.table.specs.Table.{gensIn, basisCountIn, itemsIn, termsIn, firstIn}
+use Rattle.table.specs.Tabled.{Tabled}
+use Rattle.table.proofs.Families.{family-basis}
+use Rattle.tablesums.specs.Leading.{leadIn, Leads, HeadsIn}
+
+no-letters : length (lead []) ≡ 0
+unfolding lead
+no-letters = refl
+
+module _ {t heads headlens bytes : List ℕ} (h : HeadsIn t heads headlens bytes) where
+  pub lead-laid : (g : ℕ) → g < basisCountIn t → leadIn t (suc g) ≡ laidWord heads headlens bytes g
+  lead-laid g l =
+      sym (lead-of (basisIn t) (suc g)) ∙ ap (λ (ws : List Word). getD ws g []) (sym (h .leading)) ∙ laid-at heads headlens bytes (basisCountIn t) g l
+
+  -- a leading word that has a letter leads
+  lead-some : (g : ℕ) → g < basisCountIn t → 0 < getD headlens g 0 → Leads t (suc g)
+  lead-some g l few = record { some = omega arith; most = omega arith; nonzero = λ z. absurd (omega (arith, letters z)) }
+    where
+      letters : family (basisIn t) (suc g) ≡ [] → getD headlens g 0 ≡ 0
+      letters z =
+          sym (laid-word-length heads headlens bytes (basisCountIn t) (h .laid) g l)
+          ∙ ap length (sym (lead-laid g l)) ∙ ap (λ (f : Poly). length (lead f)) z ∙ no-letters
+
+  -- so the first polynomial of an overlap does
+  pub first-leads : (f : OverlapAt) → Overlapped headlens (basisCountIn t) f → Leads t (suc (f .first))
+  first-leads f v = let q = v .below-first in lead-some (f .first) (v .first) (omega arith)

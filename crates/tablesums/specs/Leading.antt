@@ -1,0 +1,29 @@
+-- Leading words of the basis of a table.
+use mathlib.Core.Path.{_≡_}
+use mathlib.Core.Logic.{_≢_}
+use mathlib.Core.List.{List, []}
+use Prim.Native.Nat.{ℕ, _≤_, _<_}
+use Rattle.lists.specs.All.{All}
+use Rattle.words.specs.Word.{Word, Letter}
+use Rattle.words.specs.Laid.{laidWord, laidWords, Laid}
+use Rattle.algebra.specs.Ideal.{family}
+use Rattle.algebra.specs.Groebner.{lead}
+use Rattle.overlaps.specs.Overlaps.{leads}
+use Rattle.table.specs.Table.{basisCountIn}
+use Rattle.table.specs.Polynomials.{basisIn}
+
+-- The leading word of basis polynomial g.
+abbrev pub leadIn : List ℕ → ℕ → Word
+leadIn t g = lead (family (basisIn t) g)
+
+-- The basis has a polynomial with the number g, and it is not zero: it has a leading term.
+pub record Leads (t : List ℕ) (g : ℕ) : Type 0 where
+  pub some : 1 ≤ g
+  pub most : g ≤ basisCountIn t
+  pub nonzero : family (basisIn t) g ≢ []
+
+-- The words that heads and headlens lay in the bytes are the leading words of the basis, in the letters `a` to `z`.
+pub record HeadsIn (t heads headlens bytes : List ℕ) : Type 0 where
+  pub laid : Laid heads headlens bytes (basisCountIn t)
+  pub leading : laidWords heads headlens bytes (basisCountIn t) ≡ leads (basisIn t)
+  pub letters : (g : ℕ) → g < basisCountIn t → All (Letter 26) (laidWord heads headlens bytes g)

@@ -1,0 +1,6 @@
+-- What contracts cite of sum lines and overlaps on a table.
+pub mod ShortWords
+pub mod Lines
+pub mod Leading
+pub mod Factors
+pub mod Heading
