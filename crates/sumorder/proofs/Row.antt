@@ -66,7 +66,7 @@ module _ (K : Operations) (O : Order) where
     past-overlaps G os d all-left = refl
     past-overlaps G os d (one-past {s} {ss} {rest} e p) = overlaps-skip K O G s ss os 1 (λ q. absurd (d (sym e ∙ q))) ∙ past-overlaps G os d p
 
-    past-kinds : (kinds : List Side) → All (λ s. k ≢ s .kind) kinds → {ss rest : List SumLine} → Past k ss rest → kindsJudged K O ss kinds ≡ kindsJudged K O rest kinds
+    pub past-kinds : (kinds : List Side) → All (λ s. k ≢ s .kind) kinds → {ss rest : List SumLine} → Past k ss rest → kindsJudged K O ss kinds ≡ kindsJudged K O rest kinds
     unfolding kindsJudged
     past-kinds [] done p = refl
     past-kinds (s ∷ kinds) (d also ds) p = rw (past-sums (s .number) (s .kind) (family (s .others)) (s .targets) d p, past-kinds kinds ds p)

@@ -1,0 +1,40 @@
+-- A basis without a zero polynomial: each polynomial leads, and the leading words that lie in the bytes have at most 24 letters.
+use mathlib.Core.Path.{_≡_, refl, sym, ap, _∙_}
+use mathlib.Core.List.{List, []}
+use Prim.Native.Nat.{ℕ, zero, suc, _+_, _%_, _≤_}
+use native.Mathlib.Omega.{arith}
+use lib.ListN.{length, length-map}
+use Rattle.lists.proofs.Every.{all-at}
+use Rattle.words.specs.Laid.{laidWord}
+use Rattle.words.proofs.LaidWords.{laid-word-length}
+use Rattle.packedwords.specs.Packed.{unpacked}
+use Rattle.packedwords.proofs.Packing.{unpacked-length}
+use Rattle.algebra.specs.Ideal.{family}
+use Rattle.overlaps.specs.Position.{AtMost24}
+use Rattle.table.specs.Table.{gensIn, basisCountIn, firstIn, sizeIn, blocksIn, letterIn}
+use Rattle.table.specs.Polynomials.{polynomialsIn, wordIn}
+use Rattle.table.specs.Tabled.{Tabled}
+use Rattle.table.proofs.Families.{polynomials-count}
+use Rattle.table.proofs.LeadingTerms.{lead-term}
+use Rattle.tablesums.specs.Leading.{Leads, HeadsIn}
+use Rattle.tablesums.proofs.LeadingWords.{lead-laid}
+use Rattle.lapsums.specs.Heading.{Nonzero}
+
+pub basis-leads : (t : List ℕ) → Nonzero t → (g : ℕ) → 1 ≤ g → g ≤ basisCountIn t → Leads t g
+unfolding family
+basis-leads t h zero some most = absurd (omega arith)
+basis-leads t h (suc k) some most = record {
+  some = some;
+  most = most;
+  nonzero = all-at h [] k (omega (arith, polynomials-count t (gensIn t + 1) (basisCountIn t)));
+}
+
+pub heads-short : {t heads headlens bytes : List ℕ} → Tabled t → Nonzero t → HeadsIn t heads headlens bytes
+    → AtMost24 headlens (basisCountIn t)
+heads-short {t} {heads} {headlens} {bytes} T h H g l =
+    let L = lead-term t T (suc g) (basis-leads t h (suc g) (omega arith) (omega arith) .nonzero) in
+    let short = T .short (firstIn t (gensIn t + suc g)) (L .inside) in
+    let e = laid-word-length heads headlens bytes (basisCountIn t) (H .laid) g l in
+    let size : length (laidWord heads headlens bytes g) ≡ sizeIn t (firstIn t (gensIn t + suc g)) % 256 =
+    ap length (sym (lead-laid H g l)) ∙ L .letters in
+    omega arith

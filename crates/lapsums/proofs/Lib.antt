@@ -1,0 +1,6 @@
+-- What other crates cite: leading words of a basis without a zero polynomial.
+pub mod BasisLeads
+mod CountedHeads
+mod LapTurns
+mod OverlapTurns
+mod Answers

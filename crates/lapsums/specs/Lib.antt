@@ -1,0 +1,5 @@
+-- What contracts cite of the sums of the overlaps.
+pub mod Heading
+pub mod OneLap
+pub mod Judged
+pub mod Answer

@@ -1,0 +1,84 @@
+// The overlaps one after the other.
+
+use crate::LapAnswer;
+use crate::LapsAnswer;
+use crate::lap_lines::judge_overlap;
+use overlapwords::overlap_at::first_overlap;
+use overlapwords::overlap_at::overlap_behind;
+use sumlines::sum_line::line_at;
+use table::Table;
+use table::numbers::basis_in;
+ghost use mathlib.Core.Path.{_≡_};
+ghost use lib.ListN.{length};
+ghost use Rattle.algebra.specs.Ideal.{family};
+ghost use Rattle.working.specs.Working.{Arranged};
+ghost use Rattle.package.specs.Names.{sumO};
+ghost use Rattle.overlaps.specs.Overlaps.{leads, overlaps};
+ghost use Rattle.acceptance.specs.Check.{overlapsJudged};
+ghost use Rattle.sumlines.specs.Lines.{sumsAt};
+ghost use Rattle.sumorder.specs.Reached.{Reached};
+ghost use Rattle.table.specs.Polynomials.{basisIn};
+ghost use Rattle.table.specs.Table.{fieldIn, orderIn};
+ghost use Rattle.table.specs.Tabled.{Tabled};
+ghost use Rattle.packedterms.specs.Formula.{Room};
+ghost use Rattle.tablesums.specs.Leading.{HeadsIn};
+ghost use Rattle.tablesums.specs.Heading.{headIn, LinesLettered};
+ghost use Rattle.lapsums.specs.Heading.{Nonzero};
+ghost use Rattle.lapsums.specs.Judged.{lapsVerdictOf, LapsBehind};
+
+// The sums of all overlaps of the basis, whose leading words lie in the bytes: their lines stand from the place from on, where the line has the
+// number first. The overlaps are counted on the way; where no line is left over behind the last, each line belonged to one of them.
+// c, l, w and o are scratch.
+pub fn judge_overlaps(
+    t: &Table,
+    heads: &[usize],
+    headlens: &[usize],
+    bytes: &[u8],
+    from: usize,
+    first: usize,
+    c: &mut [u32; 560],
+    l: &mut [u32; 560],
+    w: &mut [u64; 3360],
+    o: &mut [u16; 560],
+) -> LapsAnswer
+    requires { ⌜ Tabled (now t) × HeadsIn (now t) (now heads) (now headlens) (now bytes) × Nonzero (now t) ⌝ }
+    requires { ⌜ Reached (headIn (now t)) sumO 1 (now bytes) from first × LinesLettered (now bytes) from first ⌝ }
+    requires { ⌜ Arranged (now o) × Room (now c) (now l) (now w) (now o) ⌝ }
+    ensures { λ r. ⌜
+        lapsVerdictOf r
+        ≡ overlapsJudged (fieldIn (now (t .entry))) (orderIn (now (t .entry))) (family (basisIn (now (t .entry))))
+        (sumsAt (now (bytes .entry)) from first) (overlaps (leads (basisIn (now (t .entry))))) 1
+        ⌝ }
+    ensures { λ r. ⌜ LapsBehind (length (overlaps (leads (basisIn (now (t .entry)))))) (sumsAt (now (bytes .entry)) from first) r ⌝ }
+{
+    let count = basis_in(t);
+    let mut at = from;
+    let mut line = first;
+    let mut i = 0;
+    let mut f = first_overlap(heads, headlens, bytes, count);
+    while f.present {
+        let r = judge_overlap(t, heads, headlens, bytes, f, i + 1, at, line, c, l, w, o);
+        match r {
+            LapAnswer::Refused { number, place } => {
+                return LapsAnswer::Stopped {
+                    number: number,
+                    place: place,
+                };
+            }
+            LapAnswer::Passed {
+                at: behind,
+                line: next,
+            } => {
+                at = behind;
+                line = next;
+                i += 1;
+                f = overlap_behind(heads, headlens, bytes, count, f);
+            }
+        }
+    }
+    let s = line_at(bytes, at);
+    LapsAnswer::Through {
+        count: i,
+        left: s.present,
+    }
+}
