@@ -16,7 +16,7 @@ use Rattle.text.specs.Pieces.{joined}
 use Rattle.text.specs.Word.{writeWord}
 use Rattle.lists.proofs.Stores.{sets-append}
 use Rattle.working.specs.Change.{single}
-use Rattle.working.specs.Working.{termAt, terms, formula}
+use Rattle.working.specs.Working.{terms}
 use Rattle.working.proofs.Terms.{terms-next, terms-end, terms-at}
 use Rattle.package.specs.Writing.{rowFields, rowLines, writeFormula}
 use Rattle.shortform.specs.FormulaText.{rowsText, rowText}
@@ -77,29 +77,30 @@ row-stored out out1 out2 at a b c v e d f g =
     sym (sets-append (set out1 a 32) (suc a) (writeWord v) (10 ∷ [])) in
     rw (f, g, add-one a) (sym (x ∙ y))
 
-module _ (c l w o : List ℕ) (n : ℕ) where
+-- the text of a run of n terms, whatever holds them
+module _ (F : ℕ → Term) (n : ℕ) where
   -- the lines from term k on
   abbrev pub restText : ℕ → List ℕ
-  restText k = rowsText (terms (termAt c l w o) k (n - k))
+  restText k = rowsText (terms F k (n - k))
 
-  pub rest-next : (k x : ℕ) (v : List ℕ) → k < n → getD (formula c l w o n) k (single 0 []) ≡ single x v → restText k ≡ rowText x v ++ restText (k + 1)
+  pub rest-next : (k x : ℕ) (v : List ℕ) → k < n → getD (terms F 0 n) k (single 0 []) ≡ single x v → restText k ≡ rowText x v ++ restText (k + 1)
   rest-next k x v h e =
-      let q : termAt c l w o k ≡ single x v = sym (terms-at (termAt c l w o) n k (single 0 []) h) ∙ e in
-      ap rowsText (terms-next (termAt c l w o) k n h)
-      ∙ rows-next (termAt c l w o k) (terms (termAt c l w o) (k + 1) (n - (k + 1)))
+      let q : F k ≡ single x v = sym (terms-at F n k (single 0 []) h) ∙ e in
+      ap rowsText (terms-next F k n h)
+      ∙ rows-next (F k) (terms F (k + 1) (n - (k + 1)))
       ∙ ap (λ (t : Term). rowText (t .coef) (t .word) ++ restText (k + 1)) q
 
   pub rest-end : (k : ℕ) → n ≤ k → restText k ≡ []
-  rest-end k h = ap rowsText (terms-end (termAt c l w o) k n h) ∙ rows-none
+  rest-end k h = ap rowsText (terms-end F k n h) ∙ rows-none
 
-  pub text-start : writeFormula (formula c l w o n) ≡ namesLine ++ restText 0
-  text-start = text-names (formula c l w o n) ∙ rw sub-zero
+  pub text-start : writeFormula (terms F 0 n) ≡ namesLine ++ restText 0
+  text-start = text-names (terms F 0 n) ∙ rw sub-zero
 
-  pub text-start-length : 10 + length (restText 0) ≡ length (writeFormula (formula c l w o n))
+  pub text-start-length : 10 + length (restText 0) ≡ length (writeFormula (terms F 0 n))
   text-start-length = sym (ap (λ (x : List ℕ). length x) text-start ∙ length-append namesLine (restText 0))
 
   -- counted to r before term k
-  pub counted-next : (k x r whole : ℕ) (v : List ℕ) → k < n → getD (formula c l w o n) k (single 0 []) ≡ single x v
+  pub counted-next : (k x r whole : ℕ) (v : List ℕ) → k < n → getD (terms F 0 n) k (single 0 []) ≡ single x v
       → r + length (restText k) ≡ whole → r + length (rowText x v) + length (restText (k + 1)) ≡ whole
   counted-next k x r whole v h e s =
       let q : length (restText k) ≡ length (rowText x v) + length (restText (k + 1)) =
@@ -110,12 +111,12 @@ module _ (c l w o : List ℕ) (n : ℕ) where
   counted-end k r whole h s = let q : length (restText k) ≡ 0 = ap (λ (y : List ℕ). length y) (rest-end k h) in omega arith
 
   -- written up to the place at before term k
-  pub stored-next : (out out' whole : List ℕ) (at k x : ℕ) (v : List ℕ) → k < n → getD (formula c l w o n) k (single 0 []) ≡ single x v
+  pub stored-next : (out out' whole : List ℕ) (at k x : ℕ) (v : List ℕ) → k < n → getD (terms F 0 n) k (single 0 []) ≡ single x v
       → sets out at (restText k) ≡ whole → out' ≡ sets out at (rowText x v) → sets out' (at + length (rowText x v)) (restText (k + 1)) ≡ whole
   stored-next out out' whole at k x v h e s d =
       rw d (sets-append out at (rowText x v) (restText (k + 1))) ∙ ap (sets out at) (sym (rest-next k x v h e)) ∙ s
 
-  pub stored-start : (out : List ℕ) → sets (sets out 0 namesLine) 10 (restText 0) ≡ sets out 0 (writeFormula (formula c l w o n))
+  pub stored-start : (out : List ℕ) → sets (sets out 0 namesLine) 10 (restText 0) ≡ sets out 0 (writeFormula (terms F 0 n))
   stored-start out = sets-append out 0 namesLine (restText 0) ∙ ap (sets out 0) (sym text-start)
 
   pub stored-end : (out whole : List ℕ) (at k : ℕ) → n ≤ k → sets out at (restText k) ≡ whole → out ≡ whole

@@ -1,8 +1,9 @@
 -- `text_len`: what is counted, with the lines from term k on, is the whole.
 use mathlib.Core.Path.{_≡_}
-use Prim.Native.Nat.{_+_, _-_, _*_, _≤_}
+use Prim.Native.Nat.{ℕ, _+_, _-_, _*_, _≤_}
 use lib.ListN.{length}
-use Rattle.working.specs.Working.{formula}
+use Rattle.algebra.specs.Poly.{Term}
+use Rattle.working.specs.Working.{termAt, formula}
 use Rattle.package.specs.Writing.{writeFormula}
 use Rattle.formwriting.proofs.Texts.{restText, text-start-length, counted-next, counted-end}
 use borrow.Author.Needs.{needs}
@@ -11,15 +12,19 @@ use Rattle.formwriting.proofs.writing.text_len.Tie as tie
 
 abbrev Inv-loop : tie.InvT-loop
 Inv-loop c l w o n r₀ k₀ r k =
-    (k ≤ n) × (r ≤ 10 + k * 8589934592) × (r + length (restText c l w o n k) ≡ length (writeFormula (formula c l w o n)))
+    (k ≤ n) × (r ≤ 10 + k * 8589934592) × (r + length (restText (termAt c l w o) n k) ≡ length (writeFormula (formula c l w o n)))
 
 abbrev μ-loop : tie.MeasureT-loop
 μ-loop c l w o n r₀ k₀ r k = n - k
 
+-- the terms that are held
+abbrev held : tie.Start Inv-loop μ-loop → ℕ → Term
+held z = termAt (z .args .c .now) (z .args .l .now) (z .args .w .now) (z .args .o .now)
+
 loop-holds : tie.Need-loop-holds Inv-loop μ-loop
 loop-holds c =
     let z = c .before .before .before .before in
-    (search needs, search needs, text-start-length (z .args .c .now) (z .args .l .now) (z .args .w .now) (z .args .o .now) (z .args .n))
+    (search needs, search needs, text-start-length (held z) (z .args .n))
 
 read-term-requires : tie.Need-read-term-requires Inv-loop μ-loop
 read-term-requires c κs = search needs
@@ -51,13 +56,13 @@ loop-again c =
     let i = t .before in
     let m = i .before in
     let z = m .before .before .before .before .before in
-    (search needs, search needs, rw (c .row-len .ensures .0) (counted-next (z .args .c .now) (z .args .l .now) (z .args .w .now) (z .args .o .now) (z .args .n) (m .loop .k) _ (m .loop .r) _ _ (i .loop-test .taken) (t .read-term .ensures .1) (m .loop .inv .2)))
+    (search needs, search needs, rw (c .row-len .ensures .0) (counted-next (held z) (z .args .n) (m .loop .k) _ (m .loop .r) _ _ (i .loop-test .taken) (t .read-term .ensures .1) (m .loop .inv .2)))
 
 returns : tie.Need-returns Inv-loop μ-loop
 returns c =
     let m = c .before in
     let z = m .before .before .before .before .before in
-    counted-end (z .args .c .now) (z .args .l .now) (z .args .w .now) (z .args .o .now) (z .args .n) (m .loop .k) (m .loop .r) _ (c .loop-test .left) (m .loop .inv .2)
+    counted-end (held z) (z .args .n) (m .loop .k) (m .loop .r) _ (c .loop-test .left) (m .loop .inv .2)
 
 pub text-len-spec : {M : Type 1} → statement M
 text-len-spec =
