@@ -21,7 +21,7 @@ use Rattle.acceptance.specs.Check.{Side}
 use Rattle.sumlines.specs.declared.SumAt.{SumAt}
 use Rattle.sumlines.specs.Lines.{takenLine}
 use Rattle.table.specs.Table.{gensIn, basisCountIn, itemsIn, fieldIn, orderIn}
-use Rattle.table.specs.Polynomials.{polynomialIn, polynomialsIn, relationsIn, basisIn}
+use Rattle.table.specs.Polynomials.{polynomialIn, relationsIn, basisIn}
 use Rattle.table.specs.Tabled.{Tabled}
 use Rattle.table.proofs.Families.{polynomials-count, family-relations, family-basis}
 use Rattle.packedterms.specs.Formula.{formula, Holds, Working}

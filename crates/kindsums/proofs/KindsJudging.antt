@@ -15,7 +15,7 @@ use Rattle.package.specs.Names.{sumB, sumG, sumO}
 use Rattle.package.specs.Sums.{SumLine}
 use Rattle.acceptance.specs.Check.{Verdict, refusal, fine, thenJudge, Side, sides, sumsJudged, kindsJudged}
 use Rattle.sumlines.specs.Lines.{sumsAt}
-use Rattle.sumorder.specs.Reached.{Past, Reached, SumsStart}
+use Rattle.sumorder.specs.Reached.{Past, all-left, one-past, Reached, SumsStart}
 use Rattle.sumorder.specs.Row.{rowVerdict}
 use Rattle.sumorder.proofs.KindOrder.{KindOver, none-first, basis-over, relations-over, reached-next}
 use Rattle.sumorder.proofs.Row.{then-refused, then-fine, row-first, row-past, past-kinds}
@@ -27,7 +27,11 @@ use Rattle.kindsums.specs.declared.SumsAnswer.the-variants.{Refused, Pas
 use Rattle.kindsums.specs.Kinds.{sideIn}
 use Rattle.kindsums.specs.Judged.{verdictOf, LeftBehind}
 use Rattle.table.proofs.Families.{polynomials-count}
-use Rattle.kindsums.proofs.PassedLines.{past-all}
+
+-- What holds of every line holds of those that are left.
+past-all : {P : SumLine → Type 0} {k : ℕ} {ss rest : List SumLine} → Past k ss rest → All P ss → All P rest
+past-all all-left a = a
+past-all (one-past e p) (x also a) = past-all p a
 
 -- The sides from a kind on.
 abbrev left : List ℕ → ℕ → List Side

@@ -1,9 +1,7 @@
 -- What sums are judged, and what is then left of the sum lines.
 use mathlib.Core.Path.{_≡_}
-use mathlib.Core.List.{List, [], _∷_}
+use mathlib.Core.List.{List, []}
 use Prim.Native.Nat.{ℕ, _+_}
-use Rattle.lists.specs.All.{All}
-use Rattle.words.specs.Word.{Letter}
 use Rattle.package.specs.declared.Head.{Head}
 use Rattle.package.specs.Names.{sumO}
 use Rattle.package.specs.Sums.{SumLine}
@@ -21,16 +19,6 @@ use Rattle.tablesums.specs.Heading.{headIn, LinesLettered}
 unfoldable pub verdictOf : SumsAnswer → Verdict
 verdictOf (Refused n k) = refusal n k
 verdictOf (Passed at line) = fine
-
--- What is left of sum lines behind some of item i of kind k.
-pub data PastItem (k i : ℕ) : List SumLine → List SumLine → Type 0 where
-  none-past : {ss : List SumLine} → PastItem k i ss ss
-  then-past : {s : SumLine} {ss rest : List SumLine} → s .kind ≡ k → s .item ≡ i → PastItem k i ss rest → PastItem k i (s ∷ ss) rest
-
--- Behind item i of kind k: the place that is reached, and that only lines of the item were passed.
-unfoldable pub ItemBehind : Head → ℕ → ℕ → List ℕ → List SumLine → SumsAnswer → Type 0
-ItemBehind h k i bytes ss (Refused n p) = Unit {0}
-ItemBehind h k i bytes ss (Passed at line) = Reached h k (i + 1) bytes at line × PastItem k i ss (sumsAt bytes at line)
 
 -- Behind count items of kind k: the place that is reached, and that only lines of the kind were passed.
 unfoldable pub LeftBehind : Head → ℕ → ℕ → List ℕ → List SumLine → SumsAnswer → Type 0

@@ -3,10 +3,9 @@ use mathlib.Core.Bool.{true, false}
 use mathlib.Core.List.{List}
 use Prim.Native.Nat.{ℕ}
 use lib.Dec.{eqb}
-use Rattle.package.specs.declared.Head.{Head}
 use Rattle.package.specs.Names.{sumB, sumG}
 use Rattle.acceptance.specs.Check.{Side}
-use Rattle.table.specs.Table.{primeIn, lettersIn, gensIn, basisCountIn}
+use Rattle.table.specs.Table.{gensIn, basisCountIn}
 use Rattle.table.specs.Polynomials.{polynomialsIn, relationsIn, basisIn}
 use Rattle.kindsums.specs.declared.KindNumbers.{KindNumbers}
 

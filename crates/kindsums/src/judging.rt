@@ -1,9 +1,13 @@
 // Refusals 10, 11 and 12: the sums of one kind.
 
 use crate::SumsAnswer;
-use crate::items::judge_item;
 use crate::numbers::kind_numbers;
+use itemadding::placing::place_item;
+use sumlines::sum_line::is_item;
+use sumlines::sum_line::line_at;
 use table::Table;
+use tablesums::lines::pack_sides;
+use tablesums::lines::take_line;
 ghost use mathlib.Core.Path.{_≡_};
 ghost use lib.ListN.{length};
 ghost use Rattle.algebra.specs.Ideal.{family};
@@ -18,8 +22,8 @@ ghost use Rattle.tablesums.specs.Heading.{headIn, LinesLettered};
 ghost use Rattle.kindsums.specs.Kinds.{sideIn};
 ghost use Rattle.kindsums.specs.Judged.{verdictOf, LeftBehind};
 
-// The sums of a kind, item after item: their lines stand from the place from on, where the line has the number first. c, l and w are
-// scratch; o names each place once afterwards too.
+// The sums of a kind, item after item and line after line: their lines stand from the place from on, where the line has the number first.
+// c, l and w are scratch; o names each place once afterwards too.
 pub fn judge_sums(
     t: &Table,
     kind: u32,
@@ -46,25 +50,46 @@ pub fn judge_sums(
     ensures { λ _. ⌜ Arranged (now (o .exit)) × Room (now (c .exit)) (now (l .exit)) (now (w .exit)) (now (o .exit)) ⌝ }
 {
     let k = kind_numbers(t, kind);
+    let none = [0u64; 6];
+    let mut left = [0u64; 6];
+    let mut right = [0u64; 6];
+    let mut buf = [0u64; 9];
     let mut at = from;
     let mut line = first;
+    let mut s = line_at(bytes, from);
     let mut g = 0;
-    while g < k.count {
+    let mut answer = SumsAnswer::Passed {
+        at: from,
+        line: first,
+    };
+    'items: while g < k.count {
         let item = g + 1;
-        let r = judge_item(t, kind, item, bytes, at, line, c, l, w, o);
-        match r {
-            SumsAnswer::Refused { number, place } => {
-                return SumsAnswer::Refused {
-                    number: number,
-                    place: place,
+        let target = k.targets + item;
+        let mut n = place_item(t, &none, 0, target, &none, 0, c, l, w, o, &mut buf);
+        while is_item(s, kind, item) {
+            let z = pack_sides(t, bytes, s, &mut left, &mut right);
+            let j = k.others + s.of;
+            n = take_line(t, s.coef, j, z, &left, &right, c, l, w, o, n, &mut buf);
+            if 512 < n {
+                answer = SumsAnswer::Refused {
+                    number: 10,
+                    place: line,
                 };
+                break 'items;
             }
-            SumsAnswer::Passed { at: x, line: n } => {
-                at = x;
-                line = n;
-                g = item;
-            }
+            at = s.next;
+            line += 1;
+            s = line_at(bytes, at);
         }
+        if 0 < n {
+            answer = SumsAnswer::Refused {
+                number: k.number,
+                place: item,
+            };
+            break 'items;
+        }
+        g = item;
+        answer = SumsAnswer::Passed { at: at, line: line };
     }
-    SumsAnswer::Passed { at: at, line: line }
+    answer
 }

@@ -1,10 +1,9 @@
-// The sums of a kind on a package's table (refusals 10, 11 and 12): an item and its lines, the items of a kind, and both kinds one after the other.
+// The sums of a kind on a package's table (refusals 10, 11 and 12): a labelled loop over the items of a kind and their lines, left from inside
+// with number and place; and both kinds one after the other.
 
-pub mod items;
 pub mod judging;
 pub mod numbers;
 pub mod row;
-pub mod taking;
 
 // What sums are judged: refused with number and place, or passed, with the place and the number of the line behind them.
 pub enum SumsAnswer {
