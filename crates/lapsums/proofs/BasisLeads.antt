@@ -1,18 +1,15 @@
 -- A basis without a zero polynomial: each polynomial leads, and the leading words that lie in the bytes have at most 24 letters.
-use mathlib.Core.Path.{_≡_, refl, sym, ap, _∙_}
+use mathlib.Core.Path.{_≡_, sym, ap, _∙_}
 use mathlib.Core.List.{List, []}
 use Prim.Native.Nat.{ℕ, zero, suc, _+_, _%_, _≤_}
 use native.Mathlib.Omega.{arith}
-use lib.ListN.{length, length-map}
+use lib.ListN.{length}
 use Rattle.lists.proofs.Every.{all-at}
 use Rattle.words.specs.Laid.{laidWord}
 use Rattle.words.proofs.LaidWords.{laid-word-length}
-use Rattle.packedwords.specs.Packed.{unpacked}
-use Rattle.packedwords.proofs.Packing.{unpacked-length}
 use Rattle.algebra.specs.Ideal.{family}
 use Rattle.overlaps.specs.Position.{AtMost24}
-use Rattle.table.specs.Table.{gensIn, basisCountIn, firstIn, sizeIn, blocksIn, letterIn}
-use Rattle.table.specs.Polynomials.{polynomialsIn, wordIn}
+use Rattle.table.specs.Table.{gensIn, basisCountIn, firstIn, sizeIn}
 use Rattle.table.specs.Tabled.{Tabled}
 use Rattle.table.proofs.Families.{polynomials-count}
 use Rattle.table.proofs.LeadingTerms.{lead-term}

@@ -1,6 +1,5 @@
 -- What other crates cite: leading words of a basis without a zero polynomial.
 pub mod BasisLeads
 mod CountedHeads
-mod LapTurns
-mod OverlapTurns
+mod OverlapsJudging
 mod Answers

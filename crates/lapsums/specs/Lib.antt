@@ -1,5 +1,4 @@
 -- What contracts cite of the sums of the overlaps.
 pub mod Heading
-pub mod OneLap
 pub mod Judged
 pub mod Answer

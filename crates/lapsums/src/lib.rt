@@ -1,13 +1,14 @@
-// The sums of the overlaps on a package's table (refusals 10, 13, 14 and 15): the lines of one overlap, the overlaps one after the other, and 15.
+// The sums of the overlaps on a package's table (refusals 10, 13, 14 and 15): a labelled loop over the overlaps and their lines, left from inside
+// with number and place; and 15.
 
-pub mod lap_lines;
+pub mod beginning;
 pub mod laps;
 pub mod overlap_sums;
 
-// What one overlap is judged: refused with number and place, or passed, with the place and the number of the line behind its lines.
-pub enum LapAnswer {
-    Refused { number: u32, place: usize },
-    Passed { at: usize, line: usize },
+// The start of an overlap's sum: how many terms its difference has, and the size of its overlap word.
+pub struct LapStart {
+    pub terms: usize,
+    pub size: usize,
 }
 
 // What the overlaps are judged: stopped by a refusal, or through, with the number of overlaps and whether a line is left over.

@@ -1,13 +1,17 @@
-// The overlaps one after the other.
+// Refusals 14, 10 and 13: the sums of the overlaps, one after the other.
 
-use crate::LapAnswer;
 use crate::LapsAnswer;
-use crate::lap_lines::judge_overlap;
+use crate::beginning::start_lap;
 use overlapwords::overlap_at::first_overlap;
 use overlapwords::overlap_at::overlap_behind;
+use sumlines::sum_line::is_item;
 use sumlines::sum_line::line_at;
 use table::Table;
 use table::numbers::basis_in;
+use table::numbers::gens_in;
+use tablesums::lines::pack_sides;
+use tablesums::lines::take_line;
+use tablesums::under::is_under;
 ghost use mathlib.Core.Path.{_≡_};
 ghost use lib.ListN.{length};
 ghost use Rattle.algebra.specs.Ideal.{family};
@@ -52,33 +56,59 @@ pub fn judge_overlaps(
     ensures { λ r. ⌜ LapsBehind (length (overlaps (leads (basisIn (now (t .entry)))))) (sumsAt (now (bytes .entry)) from first) r ⌝ }
 {
     let count = basis_in(t);
+    let base = gens_in(t);
+    let mut left = [0u64; 6];
+    let mut right = [0u64; 6];
+    let mut lap = [0u64; 9];
+    let mut buf = [0u64; 9];
     let mut at = from;
     let mut line = first;
+    let mut s = line_at(bytes, from);
     let mut i = 0;
-    let mut f = first_overlap(heads, headlens, bytes, count);
-    while f.present {
-        let r = judge_overlap(t, heads, headlens, bytes, f, i + 1, at, line, c, l, w, o);
-        match r {
-            LapAnswer::Refused { number, place } => {
-                return LapsAnswer::Stopped {
-                    number: number,
-                    place: place,
-                };
-            }
-            LapAnswer::Passed {
-                at: behind,
-                line: next,
-            } => {
-                at = behind;
-                line = next;
-                i += 1;
-                f = overlap_behind(heads, headlens, bytes, count, f);
-            }
-        }
-    }
-    let s = line_at(bytes, at);
-    LapsAnswer::Through {
-        count: i,
+    let mut answer = LapsAnswer::Through {
+        count: 0,
         left: s.present,
+    };
+    let mut f = first_overlap(heads, headlens, bytes, count);
+    'items: while f.present {
+        let item = i + 1;
+        let x = start_lap(t, heads, headlens, bytes, f, &mut lap, c, l, w, o);
+        let mut n = x.terms;
+        while is_item(s, 3, item) {
+            let z = pack_sides(t, bytes, s, &mut left, &mut right);
+            if !is_under(t, s.of, z, &left, &right, &lap, x.size, &mut buf) {
+                answer = LapsAnswer::Stopped {
+                    number: 14,
+                    place: line,
+                };
+                break 'items;
+            }
+            let j = base + s.of;
+            n = take_line(t, s.coef, j, z, &left, &right, c, l, w, o, n, &mut buf);
+            if 512 < n {
+                answer = LapsAnswer::Stopped {
+                    number: 10,
+                    place: line,
+                };
+                break 'items;
+            }
+            at = s.next;
+            line += 1;
+            s = line_at(bytes, at);
+        }
+        if 0 < n {
+            answer = LapsAnswer::Stopped {
+                number: 13,
+                place: item,
+            };
+            break 'items;
+        }
+        i = item;
+        answer = LapsAnswer::Through {
+            count: item,
+            left: s.present,
+        };
+        f = overlap_behind(heads, headlens, bytes, count, f);
     }
+    answer
 }

@@ -1,155 +1,355 @@
--- `judge_overlaps` judges one overlap after the other. The loop's invariant: those that are left give the verdict (proofs/OverlapTurns).
-use mathlib.Core.Path.{refl}
-use Prim.Native.Nat.{_-_}
+-- `judge_overlaps` judges the sums of the overlaps. The outer loop's invariant: what is left of the overlaps gives the verdict; the inner loop's: what
+-- is left of the overlap's lines does (proofs/OverlapsJudging).
+use mathlib.Core.Path.{_≡_, refl, sym, _∙_}
+use mathlib.Core.Bool.{Bool, true, false}
+use mathlib.Core.List.{List}
+use Prim.Native.Nat.{ℕ, _+_, _-_, _≤_}
 use native.Mathlib.Omega.{arith}
 use lib.ListN.{length}
+use borrow.Author.Tests.{not-true, not-false}
+use Rattle.algebra.specs.Ideal.{family}
 use Rattle.working.specs.Working.{Arranged}
-use Rattle.overlaps.specs.Overlaps.{leads, overlaps}
-use Rattle.overlaps.specs.Position.{AtMost24, ordinal}
+use Rattle.working.proofs.Terms.{terms-length}
+use Rattle.package.specs.Names.{sumO}
+use Rattle.overlaps.specs.Overlaps.{leads, overlaps, overlapWord}
+use Rattle.overlaps.specs.Position.{AtMost24, ordinal, overlapOf}
 use Rattle.overlapwords.specs.OverlapPlaces.{cursorOf}
 use Rattle.overlapwords.proofs.OverlapWalk.{Walked, walk-start, walk-small, walk-placed, walk-less, walk-next}
-use Rattle.acceptance.specs.Check.{itemsJudged}
-use Rattle.sumlines.specs.Lines.{sumsAt}
+use Rattle.acceptance.specs.Check.{isUnder, overlapsJudged, itemsJudged}
+use Rattle.sumlines.specs.Lines.{sumsAt, heldFrom, firstIs, takenLine}
+use Rattle.sumorder.proofs.NextLine.{next-line, next-low, next-further}
 use Rattle.table.specs.Polynomials.{basisIn}
-use Rattle.packedterms.specs.Formula.{Room}
-use Rattle.lapsums.specs.OneLap.{lapsVerdict}
+use Rattle.table.specs.Table.{fieldIn, orderIn, basisCountIn}
+use Rattle.packedterms.specs.Formula.{formula, Room, Working}
 use Rattle.lapsums.specs.Judged.{lapsVerdictOf, LapsBehind}
+use Rattle.lapsums.proofs.BasisLeads.{basis-leads}
 use Rattle.lapsums.proofs.CountedHeads.{count-laid, count-short, count-few, count-lapped, count-first, count-behind}
-use Rattle.lapsums.proofs.OverlapTurns.{LapsDone, laps-start, laps-refused, laps-next, laps-fine, laps-over}
+use Rattle.lapsums.proofs.OverlapsJudging.{OverlapsDone, LapDone, overlaps-start, lap-start, lap-not, lap-over, lap-next, lap-wrong, lap-end}
+use Rattle.lapsums.proofs.OverlapsJudging.{overlaps-end, line-words, line-small, line-names, line-tested, line-taken}
 use borrow.Author.Needs.{needs}
 use Rattle.lapsums.proofs.overlap_sums.judge_overlaps.Statement.{statement}
 use Rattle.lapsums.proofs.overlap_sums.judge_overlaps.Tie as tie
 
 abbrev Inv-loop : tie.InvT-loop
-Inv-loop t heads headlens bytes from first c₀ l₀ w₀ o₀ count at₀ line₀ i₀ f₀ c l w o at line i f =
-    Arranged o
-    × Room c l w o
-    × Walked headlens count i f
-    × LapsDone t bytes (leads (basisIn t)) (lapsVerdict t (sumsAt bytes from first) (overlaps (leads (basisIn t))) 1)
+Inv-loop t heads headlens bytes from first c₀ l₀ w₀ o₀ count base left₀ right₀ lap buf₀ at₀ line₀ s₀ i f item x n₀ c l w o left right buf at line s n =
+    (n ≤ 512)
+    × (length left ≡ 6)
+    × (length right ≡ 6)
+    × (length buf ≡ 9)
+    × Working t c l w o n
+    × LapDone t bytes (leads (basisIn t))
+    (overlapsJudged (fieldIn t) (orderIn t) (family (basisIn t)) (sumsAt bytes from first) (overlaps (leads (basisIn t))) 1)
     (length (overlaps (leads (basisIn t)))) (itemsJudged (length (overlaps (leads (basisIn t)))) (sumsAt bytes from first))
-    at line i f
+    at line i f (formula t c l w o n) s
 
 abbrev μ-loop : tie.MeasureT-loop
-μ-loop t heads headlens bytes from first c₀ l₀ w₀ o₀ count at₀ line₀ i₀ f₀ c l w o at line i f = 100000 - ordinal (cursorOf f)
+μ-loop t heads headlens bytes from first c₀ l₀ w₀ o₀ count base left₀ right₀ lap buf₀ at₀ line₀ s₀ i f item x n₀ c l w o left right buf at line s n =
+    length bytes - at
 
--- from an overlap that was judged back to the turn's top, and from there to the start
-abbrev counted : tie.At-loop Inv-loop μ-loop → tie.After-basis-in Inv-loop μ-loop
-counted m = m .before .before
+abbrev Inv-items : tie.InvT-items
+Inv-items t heads headlens bytes from first c₀ l₀ w₀ o₀ count base left₀ right₀ lap₀ buf₀ at₀ line₀ s₀ i₀ answer₀ f₀ c l w o left right lap buf at line s i answer f =
+    (length left ≡ 6)
+    × (length right ≡ 6)
+    × (length lap ≡ 9)
+    × (length buf ≡ 9)
+    × Arranged o
+    × Room c l w o
+    × Walked headlens count i f
+    × OverlapsDone t bytes (leads (basisIn t))
+    (overlapsJudged (fieldIn t) (orderIn t) (family (basisIn t)) (sumsAt bytes from first) (overlaps (leads (basisIn t))) 1)
+    (length (overlaps (leads (basisIn t)))) (itemsJudged (length (overlaps (leads (basisIn t)))) (sumsAt bytes from first))
+    at line i f s answer
 
-abbrev start : tie.After-basis-in Inv-loop μ-loop → tie.Start Inv-loop μ-loop
+abbrev μ-items : tie.MeasureT-items
+μ-items t heads headlens bytes from first c₀ l₀ w₀ o₀ count base left₀ right₀ lap₀ buf₀ at₀ line₀ s₀ i₀ answer₀ f₀ c l w o left right lap buf at line s i answer f =
+    100000 - ordinal (cursorOf f)
+
+-- the places of a turn, from the last back to the first
+abbrev based : tie.At-items Inv-loop μ-loop Inv-items μ-items → tie.After-gens-in Inv-loop μ-loop Inv-items μ-items
+based m = m .before .before .before
+
+abbrev counted : tie.At-items Inv-loop μ-loop Inv-items μ-items → tie.After-basis-in Inv-loop μ-loop Inv-items μ-items
+counted m = m .before .before .before .before
+
+abbrev start : tie.After-basis-in Inv-loop μ-loop Inv-items μ-items → tie.Start Inv-loop μ-loop Inv-items μ-items
 start b = b .before .before .before .before
 
-abbrev entered : tie.After-judge-overlap Inv-loop μ-loop → tie.In-loop Inv-loop μ-loop
-entered j = j .before .before .before .before .before
+abbrev top : tie.In-items Inv-loop μ-loop Inv-items μ-items → tie.At-items Inv-loop μ-loop Inv-items μ-items
+top x = x .before
 
-short : (b : tie.After-basis-in Inv-loop μ-loop) → AtMost24 (start b .args .headlens .now) (b .basis-in .result)
+abbrev begun : tie.At-loop Inv-loop μ-loop Inv-items μ-items → tie.After-start-lap Inv-loop μ-loop Inv-items μ-items
+begun m = m .before
+
+abbrev lap : tie.After-start-lap Inv-loop μ-loop Inv-items μ-items → tie.In-items Inv-loop μ-loop Inv-items μ-items
+lap a = a .before .before .before .before .before .before
+
+abbrev turn : tie.Then1 Inv-loop μ-loop Inv-items μ-items → tie.At-loop Inv-loop μ-loop Inv-items μ-items
+turn x = x .before .before
+
+abbrev ended : tie.Else1 Inv-loop μ-loop Inv-items μ-items → tie.At-loop Inv-loop μ-loop Inv-items μ-items
+ended x = x .before .before
+
+abbrev entered : tie.After-pack-sides Inv-loop μ-loop Inv-items μ-items → tie.Then1 Inv-loop μ-loop Inv-items μ-items
+entered p = p .before .before .before
+
+abbrev packed : tie.After-is-under Inv-loop μ-loop Inv-items μ-items → tie.After-pack-sides Inv-loop μ-loop Inv-items μ-items
+packed u = u .before .before .before .before .before
+
+abbrev passed : tie.After-take-line Inv-loop μ-loop Inv-items μ-items → tie.Else2 Inv-loop μ-loop Inv-items μ-items
+passed k = k .before .before .before .before .before .before .before .before .before
+
+-- the overlap of a turn of the inner loop, and the call
+abbrev outer : tie.At-loop Inv-loop μ-loop Inv-items μ-items → tie.At-items Inv-loop μ-loop Inv-items μ-items
+outer m = top (lap (begun m))
+
+abbrev opened : tie.At-loop Inv-loop μ-loop Inv-items μ-items → tie.Start Inv-loop μ-loop Inv-items μ-items
+opened m = start (counted (outer m))
+
+short : (b : tie.After-basis-in Inv-loop μ-loop Inv-items μ-items) → AtMost24 (start b .args .headlens .now) (b .basis-in .result)
 short b = let (tabled, heads, nonzero) = start b .pre .0 in count-short heads (b .basis-in .ensures) tabled nonzero
 
-basis-in-requires : tie.Need-basis-in-requires Inv-loop μ-loop
+few : (b : tie.After-basis-in Inv-loop μ-loop Inv-items μ-items) → b .basis-in .result ≤ 64
+few b = count-few (start b .pre .0 .0) (b .basis-in .ensures)
+
+-- the next line is one of the overlap, or none
+ours : (x : tie.Then1 Inv-loop μ-loop Inv-items μ-items)
+    → firstIs sumO (outer (turn x) .items .i + 1) (heldFrom (opened (turn x) .args .bytes .now) (turn x .loop .line) (turn x .loop .s)) ≡ true
+ours x = sym (x .before .is-item .ensures _ _) ∙ x .if1 .taken
+
+none : (x : tie.Else1 Inv-loop μ-loop Inv-items μ-items)
+    → firstIs sumO (outer (ended x) .items .i + 1) (heldFrom (opened (ended x) .args .bytes .now) (ended x .loop .line) (ended x .loop .s)) ≡ false
+none x = sym (x .before .is-item .ensures _ _) ∙ x .if1 .left
+
+-- the polynomial that it names, and the test of 14
+names : (x : tie.Then1 Inv-loop μ-loop Inv-items μ-items) → (1 ≤ turn x .loop .s .of) × (turn x .loop .s .of ≤ basisCountIn (opened (turn x) .args .t .now))
+names x = line-names _ _ _ _ _ _ _ _ _ _ _ _ (turn x .loop .inv .5) (ours x)
+
+abbrev back : tie.After-is-under Inv-loop μ-loop Inv-items μ-items → tie.At-loop Inv-loop μ-loop Inv-items μ-items
+back u = turn (entered (packed u))
+
+abbrev table : tie.After-is-under Inv-loop μ-loop Inv-items μ-items → List ℕ
+table u = opened (back u) .args .t .now
+
+tested : (u : tie.After-is-under Inv-loop μ-loop Inv-items μ-items) (a : Bool) → u .is-under .result ≡ a
+    → isUnder (orderIn (table u)) (family (basisIn (table u))) (overlapWord (family (basisIn (table u))) (overlapOf (cursorOf (outer (back u) .items .f))))
+    (takenLine (opened (back u) .args .bytes .now) (back u .loop .s))
+    ≡ a
+tested u a e =
+    let p = packed u in
+    let x = entered p in
+    let (l, r) = p .pack-sides .ensures in
+    line-tested _ _ _ _ _ _ _ _ _ _ _ _ (turn x .loop .inv .5) (ours x) _ _ _ l r _ (begun (turn x) .start-lap .ensures .1 .0) _ (u .is-under .ensures .0) a e
+
+basis-in-requires : tie.Need-basis-in-requires Inv-loop μ-loop Inv-items μ-items
 basis-in-requires c κs = search needs
 
-first-overlap-requires : tie.Need-first-overlap-requires Inv-loop μ-loop
-first-overlap-requires c κs =
-    let (tabled, heads, _) = start c .pre .0 in
-    let e = c .basis-in .ensures in
-    (count-laid heads e, (count-few tabled e, short c))
+gens-in-requires : tie.Need-gens-in-requires Inv-loop μ-loop Inv-items μ-items
+gens-in-requires c κs = search needs
 
-loop-holds : tie.Need-loop-holds Inv-loop μ-loop
-loop-holds c =
-    let b = c .before in
+line-at-requires : tie.Need-line-at-requires Inv-loop μ-loop Inv-items μ-items
+line-at-requires c κs = start (c .before) .pre .1 .0 .0 .low
+
+first-overlap-requires : tie.Need-first-overlap-requires Inv-loop μ-loop Inv-items μ-items
+first-overlap-requires c κs =
+    let b = c .before .before in
+    (count-laid (start b .pre .0 .1) (b .basis-in .ensures), (few b, short b))
+
+items-holds : tie.Need-items-holds Inv-loop μ-loop Inv-items μ-items
+items-holds c =
+    let read = c .before .line-at .ensures in
+    let b = c .before .before .before in
     let s = start b in
-    let (tabled, heads, _) = s .pre .0 in
+    let (reached, lettered) = s .pre .1 .0 in
     let e = b .basis-in .ensures in
     let q = c .first-overlap .ensures in (
+      refl,
+      refl,
+      refl,
+      refl,
       s .pre .1 .1 .0,
       s .pre .1 .1 .1,
-      walk-start _ _ (short b) (count-few tabled e) _ (q .1 .0) (q .1 .1),
-      laps-start _ _ _ _ _ _ _ _ _ (s .pre .1 .0 .0) (s .pre .1 .0 .1) _ (count-first heads e _ (q .0)) refl refl refl,
+      walk-start _ _ (short b) (few b) _ (q .1 .0) (q .1 .1),
+      overlaps-start _ _ _ _ _ _ _ _ _ _ (next-line _ _ _ _ _ _ _ reached (read .1) (read .0)) lettered _ (count-first (s .pre .0 .1) e _ (q .0)) refl refl refl,
     )
 
-add-judge-overlap : tie.Need-add-judge-overlap Inv-loop μ-loop
-add-judge-overlap c =
-    let m = c .before in
+add-item : tie.Need-add-item Inv-loop μ-loop Inv-items μ-items
+add-item c =
+    let m = top c in
     let b = counted m in
-    omega (arith, walk-small _ _ (short b) (count-few (start b .pre .0 .0) (b .basis-in .ensures)) _ _ (m .loop .inv .2) (c .loop-test .taken))
+    omega (arith, walk-small _ _ (short b) (few b) _ _ (m .items .inv .6) (c .items-test .taken))
 
-judge-overlap-requires : tie.Need-judge-overlap-requires Inv-loop μ-loop
-judge-overlap-requires c κs =
-    let x = c .before .before .before .before in
-    let m = x .before in
-    let b = counted m in
-    let s = start b in
-    let i = m .loop .inv in
-    let lapped = count-lapped (s .pre .0 .1) (b .basis-in .ensures) _ (i .2 .found (x .loop-test .taken)) in
-    (s .pre .0, (lapped, ((i .3 .reached, i .3 .lettered), (i .0, i .1))))
-
-enum-known-r : tie.Need-enum-known-r Inv-loop μ-loop
-enum-known-r c = search needs
-
-returns : tie.Need-returns Inv-loop μ-loop
-unfolding lapsVerdictOf LapsBehind
-returns c =
-    let j = c .before .before .before in
-    let x = entered j in
-    let d = x .before .loop .inv .3 in
-    (laps-refused _ _ _ _ _ _ _ _ _ _ d (x .loop-test .taken) _ (j .judge-overlap .ensures .1) _ _ (c .before .r .given .1), tt)
-
-enum-known-r-2 : tie.Need-enum-known-r-2 Inv-loop μ-loop
-enum-known-r-2 c = search needs
-
-add-i : tie.Need-add-i Inv-loop μ-loop
-add-i c =
-    let x = entered (c .before .before .before) in
-    let m = x .before in
-    let b = counted m in
-    omega (arith, walk-small _ _ (short b) (count-few (start b .pre .0 .0) (b .basis-in .ensures)) _ _ (m .loop .inv .2) (x .loop-test .taken))
-
-overlap-behind-requires : tie.Need-overlap-behind-requires Inv-loop μ-loop
-overlap-behind-requires c κs =
-    let x = entered (c .before .before .before) in
-    let m = x .before in
+start-lap-requires : tie.Need-start-lap-requires Inv-loop μ-loop Inv-items μ-items
+start-lap-requires c κs =
+    let x = c .before .before .before .before .before in
+    let m = top x in
     let b = counted m in
     let (tabled, heads, _) = start b .pre .0 in
-    let e = b .basis-in .ensures in
-    let few = count-few tabled e in
-    (count-laid heads e, (few, short b, walk-placed _ _ (short b) few _ _ (m .loop .inv .2) (x .loop-test .taken)))
+    let i = m .items .inv in
+    let lapped = count-lapped heads (b .basis-in .ensures) _ (i .6 .found (x .items-test .taken)) in
+    ((tabled, heads), ((lapped, i .2), (i .4, i .5)))
 
-loop-less : tie.Need-loop-less Inv-loop μ-loop
+loop-holds : tie.Need-loop-holds Inv-loop μ-loop Inv-items μ-items
+loop-holds c =
+    let x = lap c in
+    let i = top x .items .inv in
+    let e = c .start-lap .ensures in
+    let less = e .0 .0 in (
+      omega arith,
+      i .0,
+      i .1,
+      i .3,
+      e .1 .1 .0,
+      lap-start _ _ _ _ _ _ _ _ _ _ _ _ (i .7) (x .items-test .taken) _ (e .1 .1 .1),
+    )
+
+is-item-requires : tie.Need-is-item-requires Inv-loop μ-loop Inv-items μ-items
+is-item-requires c κs = search needs
+
+pack-sides-requires : tie.Need-pack-sides-requires Inv-loop μ-loop Inv-items μ-items
+pack-sides-requires c κs =
+    let x = c .before .before in
+    let i = turn x .loop .inv in
+    (opened (turn x) .pre .0 .0 .keys, line-words _ _ _ _ _ _ _ _ _ _ _ _ (i .5) (ours x), i .1, i .2)
+
+is-under-requires : tie.Need-is-under-requires Inv-loop μ-loop Inv-items μ-items
+is-under-requires c κs =
+    let p = c .before .before .before .before in
+    let x = entered p in
+    let m = turn x in
+    let (tabled, _, nonzero) = opened m .pre .0 in
+    let i = m .loop .inv in
+    let n = names x in
+    let (l, r) = p .pack-sides .ensures in
+    ((tabled, basis-leads _ nonzero _ (n .0) (n .1), begun m .start-lap .ensures .0 .1, i .3), (l .short, r .short))
+
+add-j : tie.Need-add-j Inv-loop μ-loop Inv-items μ-items
+add-j c =
+    let x = entered (packed (c .before .before)) in
+    let m = turn x in
+    let s = opened m in
+    omega (arith, based (outer m) .gens-in .ensures, names x .1, s .pre .0 .0 .gens, s .pre .0 .0 .basis)
+
+take-line-requires : tie.Need-take-line-requires Inv-loop μ-loop Inv-items μ-items
+take-line-requires c κs =
+    let u = c .before .before .before .before .before .before .before .before .before in
+    let p = packed u in
+    let x = entered p in
+    let m = turn x in
+    let tabled = opened m .pre .0 .0 in
+    let i = m .loop .inv in
+    let most = i .0 in
+    let base = based (outer m) .gens-in .ensures in
+    let n = names x in
+    let n₀ = n .0 in
+    let n₁ = n .1 in
+    let (l, r) = p .pack-sides .ensures in
+    let small = line-small _ _ _ _ _ _ _ _ _ _ _ _ (i .5) (ours x) in
+    ((tabled, small, omega arith, omega arith, omega arith, u .is-under .ensures .1), ((l .short, r .short), i .4))
+
+add-line : tie.Need-add-line Inv-loop μ-loop Inv-items μ-items
+add-line c =
+    let r = turn (entered (packed (passed (c .before) .before))) .loop .inv .5 .next .reached in
+    omega (arith, r .small, r .low, r .size)
+
+line-at-requires-2 : tie.Need-line-at-requires-2 Inv-loop μ-loop Inv-items μ-items
+line-at-requires-2 c κs =
+    let x = entered (packed (passed (c .before) .before)) in
+    next-low _ _ _ _ _ _ _ (turn x .loop .inv .5 .next) (ours x)
+
+loop-less : tie.Need-loop-less Inv-loop μ-loop Inv-items μ-items
 loop-less c =
-    let x = entered (c .before .before .before .before) in
-    let m = x .before in
-    let b = counted m in
-    let q = c .overlap-behind .ensures in
-    walk-less _ _ (short b) (count-few (start b .pre .0 .0) (b .basis-in .ensures)) _ _ (m .loop .inv .2) (x .loop-test .taken) _ (q .1 .0) (q .1 .1)
+    let x = entered (packed (passed (c .before .before) .before)) in
+    let a = next-low _ _ _ _ _ _ _ (turn x .loop .inv .5 .next) (ours x) in
+    let b = next-further _ _ _ _ _ _ _ (turn x .loop .inv .5 .next) (ours x) in
+    omega arith
 
-loop-again : tie.Need-loop-again Inv-loop μ-loop
+loop-again : tie.Need-loop-again Inv-loop μ-loop Inv-items μ-items
 loop-again c =
-    let j = c .before .before .before .before in
-    let x = entered j in
-    let m = x .before in
-    let b = counted m in
-    let (tabled, heads, _) = start b .pre .0 in
-    let e = b .basis-in .ensures in
-    let p = x .loop-test .taken in
+    let k = c .before .before in
+    let y = passed k in
+    let u = y .before in
+    let p = packed u in
+    let x = entered p in
+    let m = turn x in
     let i = m .loop .inv in
-    let q = c .overlap-behind .ensures in
-    let (kept, told) = j .judge-overlap .ensures in (
-      kept .0,
-      kept .1,
-      walk-next _ _ (short b) (count-few tabled e) _ _ (i .2) p _ (q .1 .0) (q .1 .1),
-      laps-next _ _ _ _ _ _ _ _ _ _ (i .3) p _ told _ _ (c .before .before .r2 .given .1) _ (count-behind heads e _ _ (q .0)),
+    let (l, r) = p .pack-sides .ensures in
+    let most = c .before .if3 .left in
+    let e = tested u true (not-false _ (y .if2 .left)) in
+    let q = k .take-line .ensures .1 .1 ∙ line-taken _ _ _ _ _ _ _ _ _ _ _ _ (i .5) (ours x) _ _ _ l r _ (based (outer m) .gens-in .ensures) in (
+      most,
+      l .short .six .six,
+      r .short .six .six,
+      k .take-line .ensures .0 .1,
+      k .take-line .ensures .1 .0,
+      lap-next _ _ _ _ _ _ _ _ _ _ _ _ (i .5) (ours x) e _ q _ (terms-length _ 0 _) most _ (c .line-at2 .ensures .1) (c .line-at2 .ensures .0),
     )
 
-line-at-requires : tie.Need-line-at-requires Inv-loop μ-loop
-line-at-requires c κs = c .before .loop .inv .3 .reached .low
+overlap-behind-requires : tie.Need-overlap-behind-requires Inv-loop μ-loop Inv-items μ-items
+overlap-behind-requires c κs =
+    let m = ended (c .before) in
+    let x = lap (begun m) in
+    let b = counted (top x) in
+    (count-laid (start b .pre .0 .1) (b .basis-in .ensures), (few b, short b, walk-placed _ _ (short b) (few b) _ _ (top x .items .inv .6) (x .items-test .taken)))
 
-returns-2 : tie.Need-returns-2 Inv-loop μ-loop
-unfolding lapsVerdictOf
+items-less : tie.Need-items-less Inv-loop μ-loop Inv-items μ-items
+items-less c =
+    let m = ended (c .before .before) in
+    let x = lap (begun m) in
+    let b = counted (top x) in
+    let q = c .overlap-behind .ensures in
+    walk-less _ _ (short b) (few b) _ _ (top x .items .inv .6) (x .items-test .taken) _ (q .1 .0) (q .1 .1)
+
+items-again : tie.Need-items-again Inv-loop μ-loop Inv-items μ-items
+items-again c =
+    let y = c .before .before in
+    let m = ended y in
+    let i = m .loop .inv in
+    let h = i .4 .holds in
+    let x = lap (begun m) in
+    let b = counted (top x) in
+    let q = c .overlap-behind .ensures in (
+      i .1,
+      i .2,
+      begun m .start-lap .ensures .0 .1 .nine,
+      i .3,
+      h .arranged,
+      h .room,
+      walk-next _ _ (short b) (few b) _ _ (top x .items .inv .6) (x .items-test .taken) _ (q .1 .0) (q .1 .1),
+      lap-end _ _ _ _ _ _ _ _ _ _ _ _ (i .5) (none y) _ (terms-length _ 0 _) (c .before .if4 .left) _ (count-behind (start b .pre .0 .1) (b .basis-in .ensures) _ _ (q .0)),
+    )
+
+returns : tie.Need-returns Inv-loop μ-loop Inv-items μ-items
+returns c =
+    let m = c .before in
+    overlaps-end _ _ _ _ _ _ _ _ _ _ _ _ (m .items .inv .7) (c .items-test .left) _ refl
+
+returns-2 : tie.Need-returns-2 Inv-loop μ-loop Inv-items μ-items
+unfolding lapsVerdictOf LapsBehind
 returns-2 c =
-    let m = c .before .before in
-    let d = m .loop .inv .3 in
-    let p = c .before .loop-test .left in
-    (laps-fine _ _ _ _ _ _ _ _ _ _ d p, laps-over _ _ _ _ _ _ _ _ _ _ d p _ (c .line-at .ensures .0) _ refl)
+    let u = c .before in
+    let x = entered (packed u) in
+    (lap-not _ _ _ _ _ _ _ _ _ _ _ _ (turn x .loop .inv .5) (ours x) (tested u false (not-true _ (c .if2 .taken))), tt)
+
+returns-3 : tie.Need-returns-3 Inv-loop μ-loop Inv-items μ-items
+unfolding lapsVerdictOf LapsBehind
+returns-3 c =
+    let k = c .before in
+    let y = passed k in
+    let u = y .before in
+    let p = packed u in
+    let x = entered p in
+    let m = turn x in
+    let i = m .loop .inv in
+    let (l, r) = p .pack-sides .ensures in
+    let e = tested u true (not-false _ (y .if2 .left)) in
+    let q = k .take-line .ensures .1 .1 ∙ line-taken _ _ _ _ _ _ _ _ _ _ _ _ (i .5) (ours x) _ _ _ l r _ (based (outer m) .gens-in .ensures) in
+    (lap-over _ _ _ _ _ _ _ _ _ _ _ _ (i .5) (ours x) e _ q _ (terms-length _ 0 _) (c .if3 .taken), tt)
+
+returns-4 : tie.Need-returns-4 Inv-loop μ-loop Inv-items μ-items
+unfolding lapsVerdictOf LapsBehind
+returns-4 c =
+    let x = c .before in
+    (lap-wrong _ _ _ _ _ _ _ _ _ _ _ _ (ended x .loop .inv .5) (none x) _ (terms-length _ 0 _) (c .if4 .taken), tt)
 
 pub judge-overlaps-spec : {M : Type 1} → statement M
 judge-overlaps-spec =
@@ -157,17 +357,29 @@ judge-overlaps-spec =
     (tie.spec
     Inv-loop
     μ-loop
+    Inv-items
+    μ-items
     basis-in-requires
+    gens-in-requires
+    line-at-requires
     first-overlap-requires
+    items-holds
+    add-item
+    start-lap-requires
     loop-holds
-    add-judge-overlap
-    judge-overlap-requires
-    enum-known-r
-    returns
-    enum-known-r-2
-    add-i
-    overlap-behind-requires
+    is-item-requires
+    pack-sides-requires
+    is-under-requires
+    add-j
+    take-line-requires
+    add-line
+    line-at-requires-2
     loop-less
     loop-again
-    line-at-requires
-    returns-2)
+    overlap-behind-requires
+    items-less
+    items-again
+    returns
+    returns-2
+    returns-3
+    returns-4)
