@@ -10,6 +10,7 @@ use lib.Dec.{eqb}
 use lib.ListN.{length, getD}
 use borrow.Author.Tests.{eq-eqb, eqb-true, eqb-false}
 use Rattle.lists.specs.All.{All, done, _also_}
+use Rattle.lists.proofs.Every.{all-map}
 use Rattle.words.specs.declared.Found.{Found}
 use Rattle.words.specs.declared.Found.the-variants.{At, Nowhere}
 use Rattle.words.specs.Word.{Word}
@@ -18,8 +19,8 @@ use Rattle.words.proofs.Standing.{leftmost-at, leftmost-nowhere}
 use Rattle.algebra.specs.Poly.{Poly}
 use Rattle.algebra.specs.Groebner.{leadCoef}
 use Rattle.overlaps.specs.Overlaps.{leads}
-use Rattle.acceptance.specs.Check.{fine, leadsJudged, holdsOther, apartJudged}
-use Rattle.acceptance.proofs.Verdicts.{refusal-not-fine}
+use Rattle.acceptance.specs.Check.{fine, leadsJudged, holdsOther, apartJudged, basisJudged}
+use Rattle.acceptance.proofs.Verdicts.{refusal-not-fine, then-iff}
 
 -- 8: every polynomial is nonzero and leads with 1
 pub leads-to : (ps : List Poly) (i : ℕ) → leadsJudged ps i ≡ fine → All (λ f. (f ≢ []) × (leadCoef f ≡ 1)) ps
@@ -106,3 +107,8 @@ pub leads-length : (ps : List Poly) → length (leads ps) ≡ length ps
 unfolding leads
 leads-length [] = refl
 leads-length (f ∷ ps) = ap suc (leads-length ps)
+
+-- A basis that is judged fine has no zero polynomial.
+pub fine-nonzero : (ps : List Poly) → basisJudged ps ≡ fine → All (λ f. f ≢ []) ps
+unfolding basisJudged
+fine-nonzero ps e = all-map (λ f h. h .0) (leads-to ps 1 (then-iff (leadsJudged ps 1) (apartJudged (leads ps) (leads ps) 1) .0 e .0))

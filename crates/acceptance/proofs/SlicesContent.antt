@@ -36,7 +36,7 @@ use Rattle.working.specs.Polynomial.{polyTerm, polyAt}
 use Rattle.working.specs.Working.{terms}
 use Rattle.working.specs.Family.{between, polyBetween, familyAt, Terms, Runs}
 use Rattle.working.proofs.Terms.{terms-length, terms-at}
-use Rattle.working.proofs.Numbered.{between-length, between-at}
+use Rattle.working.proofs.Between.{between-length, between-at}
 use Rattle.acceptance.specs.Content.{termsOf, polynomial, polynomials, relations, basis}
 use Rattle.acceptance.proofs.LineFacts.{TermBounds, term-bounds}
 use Rattle.acceptance.proofs.ReadableContent.{item-here, item-other, is-item, Past, past-none, passed}

@@ -1,1 +1,4 @@
-pub mod PackageSlices
+-- What `accept` is proved by.
+mod LeadLetters
+mod PackageRead
+mod PackageTable

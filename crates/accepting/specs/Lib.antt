@@ -1,1 +1,2 @@
-pub mod Slices
+-- What contracts cite of an accepted package.
+pub mod Accepted

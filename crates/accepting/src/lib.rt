@@ -1,18 +1,9 @@
-// A package's bytes, read and checked (document 01, 'Numbers and places'): refusals 1 to 15, or the package in lent slices.
+// A package's bytes, read and checked (document 01, 'Numbers and places'): refusals 1 to 15, or the package in its table.
 
 pub mod accept;
 
-use package::Head;
-
-// What reading and checking answers: turned away with number and place, or taken: its counts, the number of its terms, and its overlap count.
+// What reading and checking answers: turned away with number and place, or taken, with the number of its overlaps.
 pub enum Accepting {
-    Turned {
-        number: u32,
-        place: usize,
-    },
-    Taken {
-        head: Head,
-        terms: usize,
-        overlaps: usize,
-    },
+    Turned { number: u32, place: usize },
+    Taken { overlaps: usize },
 }

@@ -6,12 +6,12 @@ use native.Mathlib.Omega.{arith}
 use lib.ListN.{length}
 use borrow.Author.Tests.{lt-ltb, le-ltb}
 use Rattle.algebra.specs.Poly.{Poly}
-use Rattle.package.specs.declared.Head.{Head}
 use Rattle.package.specs.Package.{Package, refused, read}
 use Rattle.package.specs.Writing.{writeFormula}
 use Rattle.overlaps.specs.Overlaps.{leads, overlaps}
 use Rattle.acceptance.specs.Acceptance.{acceptance}
-use Rattle.accepting.specs.Slices.{PackageAccepted, overlapsIn}
+use Rattle.accepting.specs.Accepted.{TableAccepted}
+use Rattle.table.specs.Polynomials.{basisIn}
 use Rattle.acceptance.specs.Reduction.{Reduction, refusedBy, shortForm, reduction}
 use Rattle.services.specs.declared.Checked.{Checked}
 use Rattle.services.specs.declared.Shortened.{Shortened}
@@ -27,10 +27,10 @@ refused-checked bytes n k e = sym (ap checkAnswer e)
 checkedWith : ℕ → Checked
 checkedWith k = record { number = 0; place = 0; overlaps = k }
 
-pub accepted-checked : (bytes cs os ls fs : List ℕ) (h : Head) (m count : ℕ) → PackageAccepted bytes cs os ls fs h m → count ≡ overlapsIn h cs os ls bytes fs
+pub accepted-checked : (bytes t : List ℕ) (count : ℕ) → TableAccepted bytes t → count ≡ length (overlaps (leads (basisIn t)))
     → record { number = 0; place = 0; overlaps = count } ≡ checkedAs bytes
 unfolding checkedAs checkAnswer checkedWith
-accepted-checked bytes cs os ls fs h m count a e =
+accepted-checked bytes t count a e =
     ap checkedWith (e ∙ ap (λ (ps : List Poly). length (overlaps (leads ps))) (a .basis)) ∙ sym (ap checkAnswer (a .accepted))
 
 -- A formula that is refused.

@@ -1,6 +1,6 @@
 // is_member: whether a formula is a sum over the package's relations.
 
-use reduceread::Reduced;
+use reducing::Reduced;
 use reducing::reduce::reduce;
 use services::Membership;
 ghost use mathlib.Core.Path.{_≡_};
@@ -21,11 +21,21 @@ fn is_none(terms: usize) -> u64
 pub fn is_member(package: &[u8], formula: &[u8], budget: u32) -> Membership
     ensures { λ r. ⌜ r ≡ membershipAs (now («package» .entry)) (now (formula .entry)) budget ⌝ }
 {
+    let mut t = [0u64; 3424];
     let mut c = [0u32; 560];
-    let mut l = [0u16; 560];
-    let mut w = [0u8; 40320];
+    let mut l = [0u32; 560];
+    let mut w = [0u64; 3360];
     let mut o = [0u16; 560];
-    let r = reduce(package, formula, budget, &mut c, &mut l, &mut w, &mut o);
+    let r = reduce(
+        package,
+        formula,
+        budget,
+        &mut t,
+        &mut c,
+        &mut l,
+        &mut w,
+        &mut o,
+    );
     match r {
         Reduced::Refused { number, place } => Membership {
             number: number as u64,

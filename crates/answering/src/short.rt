@@ -1,6 +1,6 @@
 // The short form service: a formula's short form under a package, written as a formula.
 
-use reduceread::Reduced;
+use reducing::Reduced;
 use reducing::reduce::reduce;
 use services::Shortened;
 use shortwriting::short::refusal;
@@ -14,13 +14,23 @@ pub fn shorten(package: &[u8], formula: &[u8], budget: u32, out: &mut [u8]) -> S
     ensures { λ r. ⌜ r ≡ shortenedAs (now («package» .entry)) (now (formula .entry)) budget (length (now (out .entry))) ⌝ }
     ensures { λ _. ⌜ now (out .exit) ≡ shortenedInto (now («package» .entry)) (now (formula .entry)) budget (now (out .entry)) ⌝ }
 {
+    let mut t = [0u64; 3424];
     let mut c = [0u32; 560];
-    let mut l = [0u16; 560];
-    let mut w = [0u8; 40320];
+    let mut l = [0u32; 560];
+    let mut w = [0u64; 3360];
     let mut o = [0u16; 560];
-    let r = reduce(package, formula, budget, &mut c, &mut l, &mut w, &mut o);
+    let r = reduce(
+        package,
+        formula,
+        budget,
+        &mut t,
+        &mut c,
+        &mut l,
+        &mut w,
+        &mut o,
+    );
     match r {
         Reduced::Refused { number, place } => refusal(number as u64, place as u64),
-        Reduced::Short { terms, steps } => write_short(&c, &l, &w, &o, terms, steps, out),
+        Reduced::Short { terms, steps } => write_short(&t, &c, &l, &w, &o, terms, steps, out),
     }
 }

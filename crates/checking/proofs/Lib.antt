@@ -1,1 +1,2 @@
-pub mod Joined
+-- What the check is proved by.
+mod KindsJudging

@@ -1,83 +1,72 @@
-// The check of a package that was read, in document 01's order: 8, 9; then B items with 10 and 11; G items with 10 and 12; then 15; then O items with 14, 10 and 13.
+// The check's row: the kinds of sums in document 01's order, B items with 10 and 11 and G items with 10 and 12; then 15; then O items with 14, 10
+// and 13.
 
-use crate::BasisAnswer;
-use crate::basis::judge_basis;
-use crate::sums::judge_package;
-use overlapchecking::Checked;
-use package::Head;
+use kindsums::SumsAnswer;
+use kindsums::judging::judge_sums;
+use lapsums::Checked;
+use lapsums::laps::judge_laps;
+use table::Table;
 use working::formula::start;
 ghost use mathlib.Core.Path.{_≡_};
-ghost use Prim.Native.Nat.{_≤_};
 ghost use lib.ListN.{length};
-ghost use Rattle.field.specs.Field.{fieldOf};
-ghost use Rattle.words.specs.Order.{wordOrder};
 ghost use Rattle.overlaps.specs.Overlaps.{leads, overlaps};
-ghost use Rattle.acceptance.specs.Check.{thenJudge, basisJudged, sumsVerdict};
+ghost use Rattle.acceptance.specs.Check.{sumsVerdict};
 ghost use Rattle.sumlines.specs.Lines.{sumsAt};
-ghost use Rattle.sumlines.specs.Room.{Places};
-ghost use Rattle.sumorder.specs.Slices.{relationsIn, basisIn, PackageLies};
 ghost use Rattle.sumorder.specs.Reached.{SumsStart};
-ghost use Rattle.overlapchecking.specs.Answer.{answerOf};
-ghost use Rattle.checking.specs.Answer.{HeadRoom};
+ghost use Rattle.table.specs.Table.{fieldIn, orderIn};
+ghost use Rattle.table.specs.Polynomials.{relationsIn, basisIn};
+ghost use Rattle.table.specs.Tabled.{Tabled};
+ghost use Rattle.packedterms.specs.Formula.{Room};
+ghost use Rattle.tablesums.specs.Leading.{HeadsIn};
+ghost use Rattle.tablesums.specs.Heading.{headIn};
+ghost use Rattle.lapsums.specs.Heading.{Nonzero};
+ghost use Rattle.lapsums.specs.Answer.{answerOf};
 
-// The check: 8 and 9, then the sums. The places are arranged once, before the sums. heads, headlens, c, l, w, o, buf and lap are scratch.
+// The check of the package that t holds: its sum lines stand in the bytes from the place from on, where the line has the number first, and heads
+// and headlens lay the leading words of its basis there. c, l, w and o are scratch, and have their room afterwards; the places are arranged once, before the sums.
 pub fn check(
-    h: Head,
-    coefs: &[u32],
-    starts: &[usize],
-    lens: &[usize],
+    t: &Table,
+    heads: &[usize],
+    headlens: &[usize],
     bytes: &[u8],
-    firsts: &[usize],
-    m: usize,
-    at: usize,
-    line: usize,
-    heads: &mut [usize],
-    headlens: &mut [usize],
-    c: &mut [u32],
-    l: &mut [u16],
-    w: &mut [u8],
-    o: &mut [u16],
-    buf: &mut [u8],
-    lap: &mut [u8],
+    from: usize,
+    first: usize,
+    c: &mut [u32; 560],
+    l: &mut [u32; 560],
+    w: &mut [u64; 3360],
+    o: &mut [u16; 560],
 ) -> Checked
-    requires { ⌜ PackageLies h (now coefs) (now starts) (now lens) (now bytes) (now firsts) m ⌝ }
-    requires { ⌜ SumsStart h (now bytes) at line ⌝ }
-    requires { ⌜ HeadRoom h (now heads) (now headlens) ⌝ }
-    requires { ⌜ Places (now c) (now l) (now w) (now o) (now buf) ⌝ }
-    requires { ⌜ 72 ≤ length (now lap) ⌝ }
+    requires { ⌜ Tabled (now t) × HeadsIn (now t) (now heads) (now headlens) (now bytes) × Nonzero (now t) ⌝ }
+    requires { ⌜ SumsStart (headIn (now t)) (now bytes) from first ⌝ }
+    requires { ⌜ Room (now c) (now l) (now w) (now o) ⌝ }
     ensures { λ r. ⌜
         r
         ≡ answerOf
-        (thenJudge (basisJudged (basisIn h (now (coefs .entry)) (now (starts .entry)) (now (lens .entry)) (now (bytes .entry)) (now (firsts .entry))))
-        (sumsVerdict (fieldOf (h .p)) wordOrder (relationsIn h (now (coefs .entry)) (now (starts .entry)) (now (lens .entry)) (now (bytes .entry)) (now (firsts .entry))) (basisIn h (now (coefs .entry)) (now (starts .entry)) (now (lens .entry)) (now (bytes .entry)) (now (firsts .entry))) (sumsAt (now (bytes .entry)) at line)))
-        (length (overlaps (leads (basisIn h (now (coefs .entry)) (now (starts .entry)) (now (lens .entry)) (now (bytes .entry)) (now (firsts .entry))))))
+        (sumsVerdict (fieldIn (now (t .entry))) (orderIn (now (t .entry))) (relationsIn (now (t .entry))) (basisIn (now (t .entry)))
+        (sumsAt (now (bytes .entry)) from first))
+        (length (overlaps (leads (basisIn (now (t .entry))))))
         ⌝ }
+    ensures { λ _. ⌜ Room (now (c .exit)) (now (l .exit)) (now (w .exit)) (now (o .exit)) ⌝ }
 {
-    let b = judge_basis(h, coefs, starts, lens, bytes, firsts, m, heads, headlens);
-    if let BasisAnswer::Unsound { number, place } = b {
-        return Checked::Rejected {
-            number: number,
-            place: place,
-        };
-    }
     start(o);
-    judge_package(
-        h,
-        heads,
-        headlens,
-        coefs,
-        starts,
-        lens,
-        bytes,
-        firsts,
-        m,
-        at,
-        line,
-        c,
-        l,
-        w,
-        o,
-        buf,
-        lap,
-    )
+    let mut at = from;
+    let mut line = first;
+    let mut kind = 1;
+    while kind < 3 {
+        let r = judge_sums(t, kind, bytes, at, line, c, l, w, o);
+        match r {
+            SumsAnswer::Refused { number, place } => {
+                return Checked::Rejected {
+                    number: number,
+                    place: place,
+                };
+            }
+            SumsAnswer::Passed { at: x, line: n } => {
+                at = x;
+                line = n;
+                kind += 1;
+            }
+        }
+    }
+    judge_laps(t, heads, headlens, bytes, at, line, c, l, w, o)
 }

@@ -14,7 +14,7 @@ use Rattle.algebra.specs.Written.{insert, plus}
 use Rattle.working.specs.Working.{terms}
 use Rattle.working.specs.Change.{single}
 use Rattle.working.proofs.Terms.{terms-next, terms-end}
-use Rattle.termadding.proofs.Inserted.{insert-equal}
+use Rattle.working.proofs.Inserted.{insert-equal}
 use Rattle.table.specs.Polynomials.{wordIn, termIn}
 use Rattle.table.specs.Table.{fieldIn, orderIn, coefIn}
 use Rattle.table.specs.Tabled.{Tabled}

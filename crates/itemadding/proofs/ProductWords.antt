@@ -13,7 +13,6 @@ use Rattle.table.specs.Polynomials.{wordIn}
 use Rattle.table.specs.Table.{letterIn, weightIn, termsIn, sizeIn, blocksIn}
 use Rattle.table.specs.Tabled.{Tabled}
 use Rattle.table.specs.Words.{wordOf, Held, Keys, Built}
-use Rattle.itemadding.specs.Fits.{Fits}
 
 map-append : (f : ℕ → ℕ) (u v : Word) → map f (u ++ v) ≡ map f u ++ map f v
 map-append f [] v = refl
@@ -90,7 +89,3 @@ module _ (t : List ℕ) (tabled : Tabled t) (i : ℕ) (h : i < termsIn t) (z fro
 
   pub term-word : wordOf t z (take 2 (drop from t)) ≡ wordIn t i
   term-word = rw (e, d)
-
--- Where the products of a run of terms fit, those of a part of it do.
-pub fits-part : (t : List ℕ) (a b first end i k : ℕ) → Fits t a b first end → first ≤ i → k ≤ end → Fits t a b i k
-fits-part t a b first end i k f h q = record { short = λ j r s. f .short j (omega arith) (omega arith) }

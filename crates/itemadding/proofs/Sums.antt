@@ -1,11 +1,12 @@
 -- The terms of a multiple added one after the other: what is held, with those that are left added to it, is the sum.
-use mathlib.Core.Path.{_≡_, refl, sym, ap, _∙_}
+use mathlib.Core.Path.{_≡_, refl, sym, ap, ap₂, _∙_}
 use mathlib.Core.List.{List, [], _∷_}
-use Prim.Native.Nat.{ℕ, _+_, _-_, _≤_, _<_}
-use lib.ListN.{length}
+use Prim.Native.Nat.{ℕ, zero, suc, _+_, _-_, _≤_, _<_}
+use native.Mathlib.Omega.{arith}
+use lib.ListN.{length, drop}
 use Rattle.words.specs.Word.{Word, around}
 use Rattle.words.specs.Order.{Order}
-use Rattle.field.specs.Field.{Operations}
+use Rattle.field.specs.Field.{Operations, fieldOf}
 use Rattle.algebra.specs.Poly.{Term, Poly, scale, shift}
 use Rattle.algebra.specs.Written.{insert, plus}
 use Rattle.algebra.proofs.Insertion.{insert-written}
@@ -30,6 +31,26 @@ plus-end : (K : Operations) (O : Order) (f : Poly) → plus K O f [] ≡ f
 unfolding plus
 plus-end K O f = refl
 
+-- The coefficient of a term, times the opposite of x, as it is computed: p is the field's number, y the opposite, c the coefficient.
+pub opposite-times : (t : List ℕ) (j p x y c z : ℕ) → p ≡ primeIn t → y ≡ fieldOf p .neg x → c ≡ coefIn t j → z ≡ fieldOf p .mul y c
+    → z ≡ fieldIn t .mul (fieldIn t .neg x) (coefIn t j)
+opposite-times t j p x y c z prime opposite coef product = product ∙ rw (opposite, coef, prime)
+
+-- A run of terms without its first k.
+drop-terms : (F : ℕ → Term) (i n k : ℕ) → drop k (terms F i n) ≡ terms F (i + k) (n - k)
+unfolding terms
+drop-terms F i n zero =
+    let a : i ≡ i + 0 = omega arith in
+    let b : n ≡ n - 0 = omega arith in
+    ap₂ (terms F) a b
+drop-terms F i zero (suc k) =
+    let b : 0 ≡ 0 - suc k = omega arith in
+    ap (terms F (i + suc k)) b
+drop-terms F i (suc n) (suc k) =
+    let a : suc i + k ≡ i + suc k = omega arith in
+    let b : n - k ≡ suc n - suc k = omega arith in
+    drop-terms F (suc i) n k ∙ ap₂ (terms F) a b
+
 module _ (t : List ℕ) (x : ℕ) (left right : Word) (end : ℕ) where
   -- the terms of the multiple from term j of the table on
   abbrev pub rest : ℕ → Poly
@@ -47,6 +68,12 @@ module _ (t : List ℕ) (x : ℕ) (left right : Word) (end : ℕ) where
 
   pub rest-end : (j : ℕ) → end ≤ j → rest j ≡ []
   rest-end j h = ap (λ (g : Poly). scale (fieldIn t) x (shift left right g)) (terms-end (termIn t) j end h) ∙ multiple-end
+
+  -- the multiple of the terms from j on without their first k
+  pub rest-skip : (j k : ℕ) → scale (fieldIn t) x (shift left right (drop k (terms (termIn t) j (end - j)))) ≡ rest (j + k)
+  rest-skip j k =
+      let e : end - j - k ≡ end - (j + k) = omega arith in
+      ap (λ (g : Poly). scale (fieldIn t) x (shift left right g)) (drop-terms (termIn t) j (end - j) k ∙ ap (terms (termIn t) (j + k)) e)
 
   -- the first of them, with the coefficient y and the word v
   pub rest-next : (j y : ℕ) (v : Word) → j < end → y ≡ fieldIn t .mul x (coefIn t j) → v ≡ around left right (wordIn t j)
@@ -81,10 +108,9 @@ pub adding-end : (t c l w o : List ℕ) (k : ℕ) (r whole : Poly) → Adding t 
 adding-end t c l w o k r whole g e =
     sym (ap (plus (fieldIn t) (orderIn t) (formula t c l w o k)) e ∙ plus-end (fieldIn t) (orderIn t) (formula t c l w o k)) ∙ g .sum
 
--- what holds of the numbers at the top of a turn
-pub record Going (t : List ℕ) (p first end n i k : ℕ) (b : List ℕ) : Type 0 where
-  pub prime : p ≡ primeIn t
+-- what holds of the numbers at the top of a turn: the item's terms start at first, and the first `skip` of them are left out
+pub record Going (first skip n i k : ℕ) (b : List ℕ) : Type 0 where
   pub from : first ≤ i
-  pub low : i ≤ end
-  pub less : k + first ≤ n + i
+  pub low : i ≤ first + 48
+  pub less : k + (first + skip) ≤ n + i
   pub nine : length b ≡ 9

@@ -1,7 +1,8 @@
-// A multiple added where the term is known that has the word of its leading term: what a step does.
+// A multiple taken away where the term is known that has the word of its leading term: what a step does.
 
-use crate::adding::add_terms;
+use crate::taking::take_item;
 use field::arithmetic::mul;
+use field::arithmetic::neg;
 use packedterms::term::add_onto;
 use table::Table;
 use table::numbers::coef_in;
@@ -20,9 +21,9 @@ ghost use Rattle.packedterms.specs.Formula.{wordAt, formula, Working};
 ghost use Rattle.itemadding.specs.Fits.{Fits};
 ghost use Rattle.itemadding.specs.LeadPlace.{LeadPlace};
 
-// Adds x × left × polynomial × right to the formula of n terms as `add_item` does, where term k has the word left × leading word × right: the leading
-// term is added onto term k without a search.
-pub fn add_onto_item(
+// Takes x × left × polynomial × right away from the formula of n terms as `take_item` does, where term k has the word left × leading word × right:
+// the leading term is taken from term k without a search.
+pub fn take_onto_item(
     t: &Table,
     x: u32,
     left: &[u64; 6],
@@ -54,14 +55,13 @@ pub fn add_onto_item(
         formula (now (t .entry)) (now (c .exit)) (now (l .exit)) (now (w .exit)) (now (o .exit)) r
         ≡ plus (fieldIn (now (t .entry))) (orderIn (now (t .entry)))
         (formula (now (t .entry)) (now (c .entry)) (now (l .entry)) (now (w .entry)) (now (o .entry)) n)
-        (scale (fieldIn (now (t .entry))) x
+        (scale (fieldIn (now (t .entry))) (fieldIn (now (t .entry)) .neg x)
         (shift (wordOf (now (t .entry)) a (now (left .entry))) (wordOf (now (t .entry)) b (now (right .entry))) (polynomialIn (now (t .entry)) item)))
         ⌝ }
 {
     let first = first_in(t, item);
-    let end = first_in(t, item + 1);
     let p = prime_in(t);
-    let y = mul(p, x, coef_in(t, first));
+    let y = mul(p, neg(p, x), coef_in(t, first));
     let r = add_onto(t, y, c, o, n, k);
-    add_terms(t, x, left, a, first + 1, end, right, b, c, l, w, o, r, buf)
+    take_item(t, x, left, a, item, 1, right, b, c, l, w, o, r, buf)
 }

@@ -102,7 +102,7 @@ module _ {t : List ℕ} {side : Side} {most : ℕ} {k : KindNumbers} (i : KindIt
       → Working t c l w o n
   target-working item held e = record { holds = held; written = rw e (family-written (fieldIn t) (orderIn t) (side .targets) (i .written) item) }
 
-  -- What `take_line` leaves, with the words that `pack_sides` packed, is the line in the bytes taken away.
+  -- What `take_item` leaves, with the words that `pack_sides` packed, is the line in the bytes taken away.
   pub line-taken : (bytes : List ℕ) (s : SumAt) (z : Sizes) (left right : List ℕ)
       → ShortWord t (part bytes (s .left) (s .leftlen)) (z .left) left → ShortWord t (part bytes (s .right) (s .rightlen)) (z .right) right
       → 1 ≤ s .of → s .of ≤ most → (f f′ : Poly) → f′ ≡ without t f (s .coef) z left right (k .others + s .of)

@@ -1,4 +1,3 @@
--- What other crates cite: the numbers of a kind, and items, lines and kinds judged one after the other.
-pub mod KindItems
-pub mod SumsJudging
-pub mod KindsJudging
+-- What `judge_sums` is proved by: the numbers of a kind, and items and lines judged one after the other.
+mod KindItems
+mod SumsJudging

@@ -7,7 +7,6 @@ use native.Mathlib.Numerals.{add-one}
 use native.Mathlib.Omega.{arith}
 use lib.ListN.{length, drop, drop-of-length-le}
 use lib.Seq.{drop-cons}
-use Rattle.lists.specs.All.{All, _also_}
 use Rattle.field.specs.Field.{Operations}
 use Rattle.words.specs.Order.{Order}
 use Rattle.algebra.specs.Poly.{Poly}
@@ -22,9 +21,7 @@ use Rattle.sumlines.specs.declared.SumAt.{SumAt}
 use Rattle.sumlines.specs.Lines.{sumsAt, heldLine, heldFrom, NumberedFrom, firstIs, Inside, takenLine}
 use Rattle.sumorder.specs.Reached.{Past, all-left, Reached}
 use Rattle.sumorder.proofs.LineOrder.{sums-skip, past-one}
-use Rattle.sumorder.proofs.NextLine.{NextLine, next-line, lines-are, its-kind, its-sum, next-fits, next-reached, no-line-left, next-item}
-use Rattle.tablesums.specs.Lines.{LineWords}
-use Rattle.tablesums.specs.Heading.{Lettered, LinesLettered}
+use Rattle.sumorder.proofs.NextLine.{NextLine, next-line, lines-are, its-kind, its-sum, next-reached, no-line-left, next-item}
 use Rattle.kindsums.specs.declared.SumsAnswer.{SumsAnswer}
 use Rattle.kindsums.specs.declared.SumsAnswer.the-variants.{Passed}
 use Rattle.kindsums.specs.Judged.{verdictOf, LeftBehind}
@@ -44,7 +41,6 @@ module _ (h : Head) (number kind : ℕ) (K : Operations) (O : Order) (G : Family
   -- The first g items passed, and s is the next line.
   pub record ItemsDone (at line g : ℕ) (s : SumAt) (answer : SumsAnswer) : Type 0 where
     pub next : NextLine h kind (g + 1) bytes at line s
-    pub letters : LinesLettered bytes at line
     pub past : Past kind ss₀ (sumsAt bytes at line)
     pub same : itemsFrom (sumsAt bytes at line) g ≡ whole
     pub told : answer ≡ Passed at line
@@ -52,17 +48,15 @@ module _ (h : Head) (number kind : ℕ) (K : Operations) (O : Order) (G : Family
   -- In item g + 1 lines were taken away, and f is left; s is the next line.
   pub record LinesDone (at line g : ℕ) (f : Poly) (s : SumAt) : Type 0 where
     pub next : NextLine h kind (g + 1) bytes at line s
-    pub letters : LinesLettered bytes at line
     pub past : Past kind ss₀ (sumsAt bytes at line)
     pub same : linesFrom (sumsAt bytes at line) g f ≡ whole
 
-  pub items-start : (from line : ℕ) → ss₀ ≡ sumsAt bytes from line → Reached h kind 1 bytes from line → LinesLettered bytes from line → (s : SumAt)
+  pub items-start : (from line : ℕ) → ss₀ ≡ sumsAt bytes from line → Reached h kind 1 bytes from line → (s : SumAt)
       → (s .present ≡ true → Inside bytes from s)
       → ((n : ℕ) → NumberedFrom n (sumsAt bytes from n) → heldFrom bytes n s ≡ sumsAt bytes from n)
       → ItemsDone from line 0 s (Passed from line)
-  items-start from line e r z s i t = record {
+  items-start from line e r s i t = record {
     next = next-line h kind 1 bytes from line s r i t;
-    letters = z;
     past = rw e all-left;
     same = rw e;
     told = refl;
@@ -73,7 +67,6 @@ module _ (h : Head) (number kind : ℕ) (K : Operations) (O : Order) (G : Family
   unfolding sumsJudged family
   lines-start at line g s answer d l f e = record {
     next = d .next;
-    letters = d .letters;
     past = d .past;
     same = rw (e, add-one (g + 1), add-one g) (rw (drop-cons fs g [] l, add-one g) at (d .same));
   }
@@ -95,24 +88,6 @@ module _ (h : Head) (number kind : ℕ) (K : Operations) (O : Order) (G : Family
       with-line : thenJudge (sumVerdict number (g + 1) (less anyLine K O G f (x ∷ sumOf kind (g + 1) ss))) (itemsFrom (x ∷ ss) (g + 1)) ≡ whole
       with-line = rw (its-sum h kind (g + 1) bytes at line s (d .next) p) at (rw (lines-are h kind (g + 1) bytes at line s (d .next) p) at (d .same))
 
-      each : All Lettered (x ∷ ss)
-      each = rw (lines-are h kind (g + 1) bytes at line s (d .next) p) at (d .letters)
-
-      pub line-words : LineWords bytes s
-      line-words = go each
-        where
-          go : All Lettered (x ∷ ss) → LineWords bytes s
-          go ((l, r) also _) =
-              let fits = next-fits h kind (g + 1) bytes at line s (d .next) p in
-              record {
-                left-short = fits .left-short;
-                right-short = fits .right-short;
-                left-in = fits .left-in;
-                right-in = fits .right-in;
-                left-letters = l;
-                right-letters = r;
-              }
-
       pub lines-over : (f′ : Poly) → f′ ≡ takeAway K O G f (takenLine bytes s) → 512 < length f′ → refusal 10 line ≡ whole
       unfolding thenJudge sumVerdict
       lines-over f′ e l = rw (less-over anyLine K O G f x (sumOf kind (g + 1) ss) any (rw e at l)) at with-line
@@ -126,13 +101,9 @@ module _ (h : Head) (number kind : ℕ) (K : Operations) (O : Order) (G : Family
           let skip : itemsFrom (x ∷ ss) (g + 1) ≡ itemsFrom ss (g + 1) = sums-skip number kind K O G x ss (drop (g + 1) fs) (g + 1 + 1) (λ q. let z = k .1 in omega arith) in
           record {
             next = next-line h kind (g + 1) bytes (s .next) (line + 1) s′ (next-reached h kind (g + 1) bytes at line s (d .next) p) i t;
-            letters = rw (add-one line) (behind each);
             past = rw (add-one line) (past-one kind (rw (lines-are h kind (g + 1) bytes at line s (d .next) p) at (d .past)) (k .0));
             same = rw (e, add-one line) (rw (less-more anyLine K O G f x (sumOf kind (g + 1) ss) any (rw e at l), skip) at with-line);
           }
-        where
-          behind : All Lettered (x ∷ ss) → All Lettered ss
-          behind (_ also a) = a
 
     module _ (p : firstIs kind (g + 1) (heldFrom bytes line s) ≡ false) where
       without : thenJudge (sumVerdict number (g + 1) (less anyLine K O G f [])) (itemsFrom (sumsAt bytes at line) (g + 1)) ≡ whole
@@ -146,7 +117,6 @@ module _ (h : Head) (number kind : ℕ) (K : Operations) (O : Order) (G : Family
       unfolding thenJudge
       lines-end z = record {
         next = next-item h kind (g + 1) bytes at line s (d .next) p;
-        letters = d .letters;
         past = d .past;
         same = rw (end-right anyLine K O G number (g + 1) f z) at without;
         told = refl;

@@ -1,19 +1,13 @@
 -- What sums are judged, and what is then left of the sum lines.
-use mathlib.Core.Path.{_≡_}
-use mathlib.Core.List.{List, []}
+use mathlib.Core.List.{List}
 use Prim.Native.Nat.{ℕ, _+_}
 use Rattle.package.specs.declared.Head.{Head}
-use Rattle.package.specs.Names.{sumO}
 use Rattle.package.specs.Sums.{SumLine}
-use Rattle.acceptance.specs.Check.{Verdict, refusal, fine, sides}
+use Rattle.acceptance.specs.Check.{Verdict, refusal, fine}
 use Rattle.sumlines.specs.Lines.{sumsAt}
 use Rattle.sumorder.specs.Reached.{Past, Reached}
-use Rattle.sumorder.specs.Row.{rowVerdict}
-use Rattle.table.specs.Polynomials.{relationsIn, basisIn}
-use Rattle.table.specs.Table.{fieldIn, orderIn}
 use Rattle.kindsums.specs.declared.SumsAnswer.{SumsAnswer}
 use Rattle.kindsums.specs.declared.SumsAnswer.the-variants.{Refused, Passed}
-use Rattle.tablesums.specs.Heading.{headIn, LinesLettered}
 
 -- The verdict that an answer tells.
 unfoldable pub verdictOf : SumsAnswer → Verdict
@@ -24,13 +18,3 @@ verdictOf (Passed at line) = fine
 unfoldable pub LeftBehind : Head → ℕ → ℕ → List ℕ → List SumLine → SumsAnswer → Type 0
 LeftBehind h k count bytes ss (Refused n p) = Unit {0}
 LeftBehind h k count bytes ss (Passed at line) = Reached h k (count + 1) bytes at line × Past k ss (sumsAt bytes at line)
-
--- Behind both kinds: the place of the first O line is reached, and what is left of the check's row is judged by the lines from there on.
-unfoldable pub KindsBehind : List ℕ → List ℕ → List SumLine → SumsAnswer → Type 0
-unfolding rowVerdict
-KindsBehind t bytes ss (Refused n p) = Unit {0}
-KindsBehind t bytes ss (Passed at line) =
-    Reached (headIn t) sumO 1 bytes at line
-    × LinesLettered bytes at line
-    × (rowVerdict (fieldIn t) (orderIn t) [] (basisIn t) (sumsAt bytes at line)
-    ≡ rowVerdict (fieldIn t) (orderIn t) (sides (relationsIn t) (basisIn t)) (basisIn t) ss)

@@ -3,11 +3,11 @@
 use crate::SumsAnswer;
 use crate::numbers::kind_numbers;
 use itemadding::placing::place_item;
+use itemadding::taking::take_item;
 use sumlines::sum_line::is_item;
 use sumlines::sum_line::line_at;
 use table::Table;
 use tablesums::lines::pack_sides;
-use tablesums::lines::take_line;
 ghost use mathlib.Core.Path.{_≡_};
 ghost use lib.ListN.{length};
 ghost use Rattle.algebra.specs.Ideal.{family};
@@ -18,7 +18,7 @@ ghost use Rattle.packedterms.specs.Formula.{Room};
 ghost use Rattle.acceptance.specs.Check.{sumsJudged};
 ghost use Rattle.sumlines.specs.Lines.{sumsAt};
 ghost use Rattle.sumorder.specs.Reached.{Reached};
-ghost use Rattle.tablesums.specs.Heading.{headIn, LinesLettered};
+ghost use Rattle.tablesums.specs.Heading.{headIn};
 ghost use Rattle.kindsums.specs.Kinds.{sideIn};
 ghost use Rattle.kindsums.specs.Judged.{verdictOf, LeftBehind};
 
@@ -36,7 +36,7 @@ pub fn judge_sums(
     o: &mut [u16; 560],
 ) -> SumsAnswer
     requires { ⌜ Tabled (now t) ⌝ }
-    requires { ⌜ Reached (headIn (now t)) kind 1 (now bytes) from first × LinesLettered (now bytes) from first ⌝ }
+    requires { ⌜ Reached (headIn (now t)) kind 1 (now bytes) from first ⌝ }
     requires { ⌜ Arranged (now o) × Room (now c) (now l) (now w) (now o) ⌝ }
     ensures { λ r. ⌜
         verdictOf r
@@ -68,8 +68,11 @@ pub fn judge_sums(
         let mut n = place_item(t, &none, 0, target, &none, 0, c, l, w, o, &mut buf);
         while is_item(s, kind, item) {
             let z = pack_sides(t, bytes, s, &mut left, &mut right);
+            let x = s.coef;
             let j = k.others + s.of;
-            n = take_line(t, s.coef, j, z, &left, &right, c, l, w, o, n, &mut buf);
+            let a = z.left;
+            let b = z.right;
+            n = take_item(t, x, &left, a, j, 0, &right, b, c, l, w, o, n, &mut buf);
             if 512 < n {
                 answer = SumsAnswer::Refused {
                     number: 10,

@@ -1,9 +1,8 @@
 // The sums of a kind on a package's table (refusals 10, 11 and 12): a labelled loop over the items of a kind and their lines, left from inside
-// with number and place; and both kinds one after the other.
+// with number and place.
 
 pub mod judging;
 pub mod numbers;
-pub mod row;
 
 // What sums are judged: refused with number and place, or passed, with the place and the number of the line behind them.
 pub enum SumsAnswer {

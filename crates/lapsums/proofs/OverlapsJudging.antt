@@ -6,7 +6,6 @@ use Prim.Native.Nat.{ℕ, suc, _+_, _≤_, _<_}
 use native.Mathlib.Numerals.{add-one}
 use native.Mathlib.Omega.{arith}
 use lib.ListN.{length}
-use Rattle.lists.specs.All.{All, _also_}
 use Rattle.text.specs.Pieces.{part}
 use Rattle.field.specs.Field.{Operations}
 use Rattle.words.specs.Word.{Word}
@@ -33,20 +32,14 @@ use Rattle.sumorder.proofs.NextLine.{NextLine, next-line, lines-are, its-kind, 
 use Rattle.table.specs.Table.{primeIn, gensIn, basisCountIn, fieldIn, orderIn}
 use Rattle.table.specs.Polynomials.{basisIn}
 use Rattle.tablesums.specs.declared.Sizes.{Sizes}
-use Rattle.tablesums.specs.Lines.{LineWords, lineHeld}
+use Rattle.tablesums.specs.Lines.{lineHeld}
 use Rattle.tablesums.specs.ShortWords.{ShortWord}
-use Rattle.tablesums.specs.Heading.{headIn, LinesLettered}
+use Rattle.tablesums.specs.Heading.{headIn}
 use Rattle.tablesums.proofs.TakenLines.{line-packed, without-basis}
 use Rattle.tablesums.proofs.TakenLines.{without as taken}
 use Rattle.lapsums.specs.declared.LapsAnswer.{LapsAnswer}
 use Rattle.lapsums.specs.declared.LapsAnswer.the-variants.{Through}
 use Rattle.lapsums.specs.Judged.{lapsVerdictOf, LapsBehind}
-
-all-first : {A : Type 0} {P : A → Type 0} {x : A} {xs : List A} → All P (x ∷ xs) → P x
-all-first (p also ps) = p
-
-all-rest : {A : Type 0} {P : A → Type 0} {x : A} {xs : List A} → All P (x ∷ xs) → All P xs
-all-rest (p also ps) = ps
 
 module _ (t bytes : List ℕ) (ws : List Word) (whole : Verdict) (total : ℕ) (items : Verdict) where
   abbrev K : Operations
@@ -71,7 +64,6 @@ module _ (t bytes : List ℕ) (ws : List Word) (whole : Verdict) (total : ℕ) (
   -- The first i overlaps passed, f is the next, and s is the next line.
   pub record OverlapsDone (at line i : ℕ) (f : OverlapAt) (s : SumAt) (answer : LapsAnswer) : Type 0 where
     pub next : NextLine (headIn t) sumO (i + 1) bytes at line s
-    pub lettered : LinesLettered bytes at line
     pub same : overlapsJudged K O G (sumsAt bytes at line) (seenOverlaps ws f) (i + 1) ≡ whole
     pub numbered : i + length (seenOverlaps ws f) ≡ total
     pub below : itemsJudged total (sumsAt bytes at line) ≡ items
@@ -80,19 +72,17 @@ module _ (t bytes : List ℕ) (ws : List Word) (whole : Verdict) (total : ℕ) (
   -- In overlap f, number i + 1, lines were taken away, and g is left; s is the next line.
   pub record LapDone (at line i : ℕ) (f : OverlapAt) (g : Poly) (s : SumAt) : Type 0 where
     pub next : NextLine (headIn t) sumO (i + 1) bytes at line s
-    pub lettered : LinesLettered bytes at line
     pub same : fromLines (sumsAt bytes at line) f i g ≡ whole
     pub numbered : i + 1 + length (overlapsAt ws (behind (cursorOf f))) ≡ total
     pub below : itemsJudged total (sumsAt bytes at line) ≡ items
 
-  pub overlaps-start : (at line : ℕ) (f : OverlapAt) (s : SumAt) → NextLine (headIn t) sumO 1 bytes at line s → LinesLettered bytes at line
+  pub overlaps-start : (at line : ℕ) (f : OverlapAt) (s : SumAt) → NextLine (headIn t) sumO 1 bytes at line s
       → (os : List Overlap) → seenOverlaps ws f ≡ os → whole ≡ overlapsJudged K O G (sumsAt bytes at line) os 1 → total ≡ length os
       → items ≡ itemsJudged total (sumsAt bytes at line) → OverlapsDone at line 0 f s (Through 0 (s .present))
-  overlaps-start at line f s n z os e v m i =
+  overlaps-start at line f s n os e v m i =
       let size : length (seenOverlaps ws f) ≡ length os = ap length e in
       record {
         next = n;
-        lettered = z;
         same = ap (λ (x : List Overlap). overlapsJudged K O G (sumsAt bytes at line) x 1) e ∙ sym v;
         numbered = omega arith;
         below = sym i;
@@ -104,7 +94,6 @@ module _ (t bytes : List ℕ) (ws : List Word) (whole : Verdict) (total : ℕ) (
   unfolding overlapsJudged
   lap-start at line i f s answer d p g e = record {
     next = d .next;
-    lettered = d .lettered;
     same = rw (e, add-one (i + 1)) (rw (seen-one ws f p) at (d .same));
     numbered = let z : i + suc (length (overlapsAt ws (behind (cursorOf f)))) ≡ total = rw (seen-one ws f p) at (d .numbered) in omega arith;
     below = d .below;
@@ -126,18 +115,6 @@ module _ (t bytes : List ℕ) (ws : List Word) (whole : Verdict) (total : ℕ) (
 
       fits : LineFits (primeIn t) bytes (ofs (headIn t) sumO) s
       fits = next-fits (headIn t) sumO (i + 1) bytes at line s (d .next) p
-
-      pub line-words : LineWords bytes s
-      line-words =
-          let (l, r) = all-first (rw here at (d .lettered)) in
-          record {
-            left-short = fits .left-short;
-            right-short = fits .right-short;
-            left-in = fits .left-in;
-            right-in = fits .right-in;
-            left-letters = l;
-            right-letters = r;
-          }
 
       pub line-small : s .coef < primeIn t
       line-small = fits .coef
@@ -190,7 +167,6 @@ module _ (t bytes : List ℕ) (ws : List Word) (whole : Verdict) (total : ℕ) (
             record {
               next = next-line (headIn t) sumO (i + 1) bytes (s .next) (line + 1) s′
                   (next-reached (headIn t) sumO (i + 1) bytes at line s (d .next) p) y u;
-              lettered = rw (add-one line) (all-rest (rw here at (d .lettered)));
               same = rw (q, add-one line) (rw (less-more test K O G g x (sumOf sumO (i + 1) ss) e (omega arith), skip) at with-line);
               numbered = d .numbered;
               below = rw (add-one line) (sym low ∙ rw here at (d .below));
@@ -209,7 +185,6 @@ module _ (t bytes : List ℕ) (ws : List Word) (whole : Verdict) (total : ℕ) (
       unfolding thenJudge
       lap-end n size z f′ y = record {
         next = next-item (headIn t) sumO (i + 1) bytes at line s (d .next) p;
-        lettered = d .lettered;
         same = rw y (rw (end-right test K O G 13 (i + 1) g (omega arith)) at without);
         numbered = rw y (d .numbered);
         below = d .below;

@@ -15,7 +15,7 @@ ghost use Rattle.package.specs.Names.{sumO};
 ghost use Rattle.overlaps.specs.Overlaps.{leads, overlaps};
 ghost use Rattle.acceptance.specs.Check.{itemsJudged};
 ghost use Rattle.sumlines.specs.Lines.{sumsAt};
-ghost use Rattle.sumlines.specs.Told.{told};
+ghost use Rattle.basis.specs.Told.{told};
 ghost use Rattle.sumorder.specs.Reached.{Reached};
 ghost use Rattle.sumorder.specs.Row.{rowVerdict};
 ghost use Rattle.table.specs.Polynomials.{basisIn};
@@ -23,7 +23,7 @@ ghost use Rattle.table.specs.Table.{fieldIn, orderIn};
 ghost use Rattle.table.specs.Tabled.{Tabled};
 ghost use Rattle.packedterms.specs.Formula.{Room};
 ghost use Rattle.tablesums.specs.Leading.{HeadsIn};
-ghost use Rattle.tablesums.specs.Heading.{headIn, LinesLettered};
+ghost use Rattle.tablesums.specs.Heading.{headIn};
 ghost use Rattle.lapsums.specs.Heading.{Nonzero};
 ghost use Rattle.lapsums.specs.Answer.{answerOf};
 
@@ -48,7 +48,8 @@ fn first_above(
 }
 
 // 15, then the sums of the overlaps: the lines of kind O stand from the place at on, where the line has the number `line`. 15 comes first, and is
-// looked for only where the sums are refused or a line is left over: else each line belonged to an overlap. c, l, w and o are scratch.
+// looked for only where the sums are refused or a line is left over: else each line belonged to an overlap. c, l, w and o are
+// scratch, and have their room afterwards.
 pub fn judge_laps(
     t: &Table,
     heads: &[usize],
@@ -62,7 +63,7 @@ pub fn judge_laps(
     o: &mut [u16; 560],
 ) -> Checked
     requires { ⌜ Tabled (now t) × HeadsIn (now t) (now heads) (now headlens) (now bytes) × Nonzero (now t) ⌝ }
-    requires { ⌜ Reached (headIn (now t)) sumO 1 (now bytes) at line × LinesLettered (now bytes) at line ⌝ }
+    requires { ⌜ Reached (headIn (now t)) sumO 1 (now bytes) at line ⌝ }
     requires { ⌜ Arranged (now o) × Room (now c) (now l) (now w) (now o) ⌝ }
     ensures { λ r. ⌜
         r
@@ -70,6 +71,7 @@ pub fn judge_laps(
         (rowVerdict (fieldIn (now (t .entry))) (orderIn (now (t .entry))) [] (basisIn (now (t .entry))) (sumsAt (now (bytes .entry)) at line))
         (length (overlaps (leads (basisIn (now (t .entry))))))
         ⌝ }
+    ensures { λ _. ⌜ Room (now (c .exit)) (now (l .exit)) (now (w .exit)) (now (o .exit)) ⌝ }
 {
     let r = judge_overlaps(t, heads, headlens, bytes, at, line, c, l, w, o);
     match r {

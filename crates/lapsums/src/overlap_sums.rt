@@ -2,6 +2,7 @@
 
 use crate::LapsAnswer;
 use crate::beginning::start_lap;
+use itemadding::taking::take_item;
 use overlapwords::overlap_at::first_overlap;
 use overlapwords::overlap_at::overlap_behind;
 use sumlines::sum_line::is_item;
@@ -10,7 +11,6 @@ use table::Table;
 use table::numbers::basis_in;
 use table::numbers::gens_in;
 use tablesums::lines::pack_sides;
-use tablesums::lines::take_line;
 use tablesums::under::is_under;
 ghost use mathlib.Core.Path.{_≡_};
 ghost use lib.ListN.{length};
@@ -26,13 +26,13 @@ ghost use Rattle.table.specs.Table.{fieldIn, orderIn};
 ghost use Rattle.table.specs.Tabled.{Tabled};
 ghost use Rattle.packedterms.specs.Formula.{Room};
 ghost use Rattle.tablesums.specs.Leading.{HeadsIn};
-ghost use Rattle.tablesums.specs.Heading.{headIn, LinesLettered};
+ghost use Rattle.tablesums.specs.Heading.{headIn};
 ghost use Rattle.lapsums.specs.Heading.{Nonzero};
 ghost use Rattle.lapsums.specs.Judged.{lapsVerdictOf, LapsBehind};
 
 // The sums of all overlaps of the basis, whose leading words lie in the bytes: their lines stand from the place from on, where the line has the
 // number first. The overlaps are counted on the way; where no line is left over behind the last, each line belonged to one of them.
-// c, l, w and o are scratch.
+// c, l, w and o are scratch, and have their room afterwards.
 pub fn judge_overlaps(
     t: &Table,
     heads: &[usize],
@@ -46,7 +46,7 @@ pub fn judge_overlaps(
     o: &mut [u16; 560],
 ) -> LapsAnswer
     requires { ⌜ Tabled (now t) × HeadsIn (now t) (now heads) (now headlens) (now bytes) × Nonzero (now t) ⌝ }
-    requires { ⌜ Reached (headIn (now t)) sumO 1 (now bytes) from first × LinesLettered (now bytes) from first ⌝ }
+    requires { ⌜ Reached (headIn (now t)) sumO 1 (now bytes) from first ⌝ }
     requires { ⌜ Arranged (now o) × Room (now c) (now l) (now w) (now o) ⌝ }
     ensures { λ r. ⌜
         lapsVerdictOf r
@@ -54,6 +54,7 @@ pub fn judge_overlaps(
         (sumsAt (now (bytes .entry)) from first) (overlaps (leads (basisIn (now (t .entry))))) 1
         ⌝ }
     ensures { λ r. ⌜ LapsBehind (length (overlaps (leads (basisIn (now (t .entry)))))) (sumsAt (now (bytes .entry)) from first) r ⌝ }
+    ensures { λ _. ⌜ Room (now (c .exit)) (now (l .exit)) (now (w .exit)) (now (o .exit)) ⌝ }
 {
     let count = basis_in(t);
     let base = gens_in(t);
@@ -83,8 +84,11 @@ pub fn judge_overlaps(
                 };
                 break 'items;
             }
+            let y = s.coef;
             let j = base + s.of;
-            n = take_line(t, s.coef, j, z, &left, &right, c, l, w, o, n, &mut buf);
+            let a = z.left;
+            let b = z.right;
+            n = take_item(t, y, &left, a, j, 0, &right, b, c, l, w, o, n, &mut buf);
             if 512 < n {
                 answer = LapsAnswer::Stopped {
                     number: 10,

@@ -8,14 +8,14 @@ use lib.ListN.{length, getD, drop, drop-of-length-le}
 use Rattle.words.specs.Word.{Word}
 use Rattle.packedwords.specs.Packed.{Codes, window, windowOf, unpacked, Packs}
 use Rattle.packedwords.proofs.Packing.{unpacked-codes, unpacked-length}
-use Rattle.packedwords.proofs.Windows.{window-lt, window-drop}
+use Rattle.packedwords.proofs.Windows.{window-lt, window-next, window-drop}
 use Rattle.packedwords.proofs.Blocks.{packs-any, packs-blocks, packs-window}
 use Rattle.packedwords.proofs.Parts.{codes-drop}
 use Rattle.leads.specs.CodeIndex.{CodeIndexed}
 use Rattle.leads.specs.CodeSearch.{Windowed, Fronted}
 use Rattle.leads.specs.SpotOfWords.{BegunBy}
 use Rattle.leads.proofs.CodeSieve.{codes-empty}
-use Rattle.leads.proofs.Sliding.{blockFrom, window-next, block-start, block-front, block-next}
+use Rattle.leads.proofs.Sliding.{blockFrom, block-start, block-front, block-next}
 
 -- Before the turn of place i of block j: x has the letters from i on, and y those of the block behind that x has not.
 pub record InBlock (w : Word) (j i x y : ℕ) : Type 0 where

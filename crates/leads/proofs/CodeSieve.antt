@@ -18,7 +18,8 @@ use Rattle.leads.specs.CodeSearch.{Fronted}
 use Rattle.leads.specs.SpotOfWords.{BegunBy}
 use Rattle.leads.proofs.Agreement.{begins-letters, letters-begin}
 use Rattle.leads.proofs.Bits.{and-out, and-in, or-out, or-left, or-right, bit-zero, bit-all}
-use Rattle.leads.proofs.Sliding.{window-front, window-second}
+use Rattle.packedwords.proofs.Windows.{window-front}
+use Rattle.leads.proofs.Sliding.{window-second}
 
 -- Before the turn of row k: `begun` has words that u begins with; the first k letters of the words in `left` are u's, with zeros behind the ends;
 -- and of the words that u begins with, the shorter ones are in `begun`, the others in `left`.

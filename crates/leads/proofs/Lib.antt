@@ -1,7 +1,4 @@
--- What other crates cite: the leading words by their numbers, that a table of zeros is blank,
--- that the spot of the leading words is that of their polynomials, and the same of a table's basis and the codes of its leading words.
-pub mod LeadingWords
-pub mod BlankTable
+-- What other crates cite: the leading words of a table's basis by their numbers, and that the spot of their codes is the spot of the basis.
 pub mod SpotOfLeads
 pub mod TableLeads
 pub mod SpotOfCodes
@@ -10,10 +7,6 @@ pub mod SpotOfTable
 mod Bits
 mod Lowest
 mod OneMark
-mod Columns
-mod Beginnings
-mod Marks
-mod Sieve
 mod Agreement
 mod CodeMarks
 mod Pairs

@@ -6,8 +6,8 @@ use mathlib.Core.List.{List, [], _∷_}
 use Prim.Native.Nat.{ℕ, zero, suc, _+_, _-_, _≤_, _<_}
 use native.Mathlib.Numerals.{add-one}
 use native.Mathlib.Omega.{arith}
-use lib.ListN.{length, getD, take, drop, length-drop, drop-of-length-le}
-use lib.Seq.{drop-cons, take-all}
+use lib.ListN.{length, getD, drop, drop-of-length-le}
+use lib.Seq.{drop-cons}
 use Rattle.lists.proofs.Bools.{not-true}
 use Rattle.words.specs.Word.{Word}
 use Rattle.words.specs.Place.{begins}
@@ -49,13 +49,6 @@ spot-some ls (a ∷ w) i n e = rw (spotOfWordsFrom, e)
 pub spot-start : (ls : List Word) (w : Word) → spotOfWordsFrom ls (drop 0 w) 0 ≡ spotOfWords ls w
 unfolding spotOfWords
 spot-start ls w = refl
-
--- the part of w from place i on is what follows its first i letters
-pub begun-rest : (ls : List Word) (w : Word) (i m : ℕ) → BegunBy ls (take (length w - i) (drop i w)) m → BegunBy ls (drop i w) m
-begun-rest ls w i m b =
-    let e = length-drop i w in
-    let z : take (length w - i) (drop i w) ≡ drop i w = take-all (length w - i) (drop i w) (omega arith) in
-    rw z at b
 
 -- the turn at place i, where m is the mask of the words that stand there
 module _ (ls : List Word) (w : Word) (i m : ℕ) (b : BegunBy ls (drop i w) m) where

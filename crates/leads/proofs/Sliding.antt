@@ -1,25 +1,20 @@
 -- Twelve letters in a row, moved on by a letter: what is in front, and what comes in behind.
-use mathlib.Core.Path.{_≡_, refl, sym, _∙_, ap}
+use mathlib.Core.Path.{_≡_, sym, _∙_, ap}
 use Prim.Native.Nat.{ℕ, _+_, _*_, _/_, _%_, _^_, _≤_, _<_}
-use native.Mathlib.Nat.{add-zero, zero-add}
+use native.Mathlib.Nat.{add-zero}
 use native.Mathlib.Decide.{decLt, ℕ-discrete}
 use native.Mathlib.Omega.{arith}
-use lib.ListN.{length, getD, take, drop, length-take, List·getD-eq-default}
+use lib.ListN.{getD, take, drop, length-take}
 use lib.Seq.{getD-take}
 use Rattle.words.specs.Word.{Word}
 use Rattle.packedwords.specs.Packed.{Codes, value, window}
 use Rattle.packedwords.proofs.Values.{value-front}
-use Rattle.packedwords.proofs.Windows.{window-blocks, window-drop, window-whole}
+use Rattle.packedwords.proofs.Windows.{window-front, window-last, window-drop, window-whole}
 use Rattle.packedwords.proofs.Parts.{codes-drop, codes-take}
 use Rattle.packing.proofs.Entries.{part-at}
 use Rattle.leads.specs.CodeSearch.{Fronted}
 
 module _ (w : Word) (c : Codes w) (i : ℕ) where
-  pub window-front : window w i / 2 ^ 55 ≡ getD w i 0
-  unfolding value
-  window-front =
-      value-front (λ (j : ℕ). getD w (i + j) 0) (λ j. c (i + j)) 1 11 ∙ zero-add (getD w (i + 0) 0) ∙ ap (λ (x : ℕ). getD w x 0) (add-zero i)
-
   pub window-second : window w i / 2 ^ 50 % 32 ≡ getD w (i + 1) 0
   unfolding value
   window-second =
@@ -28,16 +23,6 @@ module _ (w : Word) (c : Codes w) (i : ℕ) where
     where
       last : (x y : ℕ) → y < 32 → ((0 * 32 + x) * 32 + y) % 32 ≡ y
       last x y l = omega arith
-
-module _ (w : Word) (c : Codes w) (i : ℕ) where
-  pub window-next : window w (i + 1) ≡ window w i * 2 ^ 5 % 2 ^ 60 + getD w (i + 12) 0
-  window-next =
-      window-blocks w c i 1 11 refl ∙ ap (λ (x : ℕ). window w i * 2 ^ 5 % 2 ^ 60 + x) (window-front w c (i + 12))
-
-  -- nothing comes in behind the end
-  window-last : length w ≤ i + 12 → window w (i + 1) ≡ window w i * 2 ^ 5 % 2 ^ 60
-  window-last h =
-      window-next ∙ ap (λ (x : ℕ). window w i * 2 ^ 5 % 2 ^ 60 + x) (List·getD-eq-default w 0 h) ∙ add-zero (window w i * 2 ^ 5 % 2 ^ 60)
 
 -- The twelve letters from place a on as a word; moved up by r letters it has those behind its first r.
 abbrev pub blockFrom : Word → ℕ → Word

@@ -1,16 +1,22 @@
 -- The leading words of a table's basis, by their numbers: there are as many as basis polynomials, and they have an index.
 use mathlib.Core.Path.{_≡_, refl, sym, _∙_, ap}
+use mathlib.Core.Logic.{_≢_}
 use mathlib.Core.List.{List, []}
-use Prim.Native.Nat.{ℕ, zero, suc, _+_, _%_, _≤_, _<_}
+use Prim.Native.Nat.{ℕ, zero, suc, _+_, _-_, _%_, _≤_, _<_}
 use native.Mathlib.Nat.{add-zero}
+use native.Mathlib.Decide.{decLt}
 use native.Mathlib.Omega.{arith}
 use lib.ListN.{length, getD}
 use Rattle.lists.specs.All.{All}
-use Rattle.lists.proofs.Every.{all-by-index}
+use Rattle.lists.proofs.Every.{all-at, all-by-index}
+use Rattle.algebra.specs.Ideal.{family}
+use Rattle.working.specs.Working.{terms}
 use Rattle.packedwords.specs.Packed.{Codes, Nonzero, unpacked}
 use Rattle.packedwords.proofs.Packing.{unpacked-length, unpacked-codes}
-use Rattle.table.specs.Table.{gensIn, basisCountIn, termsIn, firstIn, sizeIn, blocksIn}
+use Rattle.table.specs.Table.{gensIn, basisCountIn, itemsIn, termsIn, firstIn, sizeIn, blocksIn}
+use Rattle.table.specs.Polynomials.{termIn, polynomialIn, basisIn}
 use Rattle.table.specs.Tabled.{Tabled}
+use Rattle.table.proofs.Families.{polynomials-count, family-basis}
 use Rattle.leads.specs.CodeIndex.{CodeIndexable}
 use Rattle.leads.specs.LeadCodes.{codesIn, leadCodesFrom, leadCodesIn, BasisLeads}
 
@@ -45,15 +51,32 @@ module _ (t : List ℕ) where
         let u = term-read in
         omega arith
 
+  -- A basis without a zero polynomial has leading words.
+  pub nonzero-leads : All (λ f. f ≢ []) (basisIn t) → BasisLeads t
+  unfolding family terms
+  nonzero-leads z j lo hi = go (decLt (firstIn t j) (firstIn t (suc j)))
+    where
+      k : ℕ
+      k = j - gensIn t - 1
+
+      go : Dec (firstIn t j < firstIn t (suc j)) → firstIn t j < firstIn t (suc j)
+      go (yes q) = q
+      go (no q) =
+          let n = polynomials-count t (gensIn t + 1) (basisCountIn t) in
+          let e : gensIn t + suc k ≡ j = omega arith in
+          let none : firstIn t (suc j) - firstIn t j ≡ 0 = omega arith in
+          let empty : polynomialIn t j ≡ [] = ap (terms (termIn t) (firstIn t j)) none in
+          absurd (all-at z [] k (omega arith) (family-basis t k (omega arith) ∙ ap (polynomialIn t) e ∙ empty))
+
   module _ (h : Tabled t) (l : BasisLeads t) where
-    pub leads-indexable : All Nonzero (leadCodesIn t) → CodeIndexable (leadCodesIn t)
-    leads-indexable z =
+    pub leads-indexable : CodeIndexable (leadCodesIn t)
+    leads-indexable =
         let n = lead-codes-length (gensIn t + 1) (basisCountIn t) in
         record {
           few = let b = h .basis in omega arith;
           short = all-by-index (leadCodesIn t) [] (λ g p. short g (omega arith));
           codes = all-by-index (leadCodesIn t) [] (λ g p. codes g (omega arith));
-          nonzero = z;
+          nonzero = all-by-index (leadCodesIn t) [] (λ g p. nonzero g (omega arith));
         }
       where
         short : (g : ℕ) → g < basisCountIn t → length (getD (leadCodesIn t) g []) ≤ 24
@@ -67,3 +90,8 @@ module _ (t : List ℕ) where
         codes g p =
             let i = firstIn t (gensIn t + 1 + g) in
             rw (lead-codes-at (gensIn t + 1) (basisCountIn t) g p) (unpacked-codes (sizeIn t i % 256) (blocksIn t i))
+
+        nonzero : (g : ℕ) → g < basisCountIn t → Nonzero (getD (leadCodesIn t) g [])
+        nonzero g p =
+            let i = firstIn t (gensIn t + 1 + g) in
+            rw (lead-codes-at (gensIn t + 1) (basisCountIn t) g p) (h .coded i (term-inside g (gensIn t + 1) i 0 refl refl h l p))

@@ -1,6 +1,5 @@
 -- What this crate's contracts cite.
 pub mod Masks
-pub mod Index
 pub mod CodeIndex
 pub mod LeadCodes
 pub mod SpotOfWords

@@ -10,9 +10,8 @@ use table::numbers::size_in;
 ghost use mathlib.Core.Path.{_≡_};
 ghost use Prim.Native.Nat.{_≤_, _<_};
 ghost use lib.ListN.{length};
-ghost use Rattle.lists.specs.All.{All};
 ghost use Rattle.words.specs.Word.{Word};
-ghost use Rattle.packedwords.specs.Packed.{Nonzero, unpacked};
+ghost use Rattle.packedwords.specs.Packed.{unpacked};
 ghost use Rattle.table.specs.Table.{blocksIn};
 ghost use Rattle.table.specs.Tabled.{Tabled};
 ghost use Rattle.leads.specs.CodeIndex.{indexSize, CodeBlank, CodeIndexed, CodeRowsDone, PairsDone};
@@ -69,7 +68,6 @@ fn mark_pairs(t: &Table, i: usize, n: usize, index: &mut [u64; 832])
 pub fn index_leads(t: &Table, index: &mut [u64; 832])
     requires { ⌜ Tabled (now t) ⌝ }
     requires { ⌜ BasisLeads (now t) ⌝ }
-    requires { ⌜ All Nonzero (leadCodesIn (now t)) ⌝ }
     requires { ⌜ CodeBlank (now index) ⌝ }
     ensures { λ _. ⌜ CodeIndexed (leadCodesIn (now (t .entry))) (now (index .exit)) ⌝ }
 {

@@ -1,11 +1,10 @@
-// Masks of 64 bits, and the columns of the table.
+// Masks of 64 bits.
 
 ghost use mathlib.Core.Path.{_≡_};
 ghost use Prim.Native.Nat.{_^_, _<_};
 ghost use lib.ListN.{length};
 ghost use lib.Bits.{bitOr};
 ghost use Rattle.leads.specs.Masks.{LowestBit, withMark};
-ghost use Rattle.leads.specs.Index.{column};
 
 // The mask with bit g as well.
 pub fn with_bit(m: u64, g: usize) -> u64
@@ -30,19 +29,4 @@ pub fn lowest(m: u64) -> usize
     ensures { λ r. ⌜ (r < 64) × LowestBit m r ⌝ }
 {
     u64::trailing_zeros(m) as usize
-}
-
-// The column of a byte: 1 to 26 for the letters, 27 for any other, where no word is marked.
-pub fn column(a: u8) -> usize
-    ensures { λ r. ⌜ r ≡ column a ⌝ }
-    ensures { λ r. ⌜ r < 32 ⌝ }
-{
-    let c = a as usize;
-    if c < 97 {
-        return 27;
-    }
-    if 122 < c {
-        return 27;
-    }
-    c - 96
 }

@@ -1,63 +1,38 @@
--- Listing's answer, case by case: each of the refusals 8 and 9, and none.
+-- Listing's answer, case by case: a basis that is refused, and one that is not.
 use mathlib.Core.Path.{_≡_, refl, sym, _∙_, ap}
 use mathlib.Core.List.{List}
-use Prim.Native.Nat.{ℕ, zero, suc, _≤_, _<_}
-use native.Mathlib.Omega.{arith}
-use lib.ListN.{length}
-use lib.Seq.{sets}
-use borrow.Author.Tests.{lt-ltb, le-ltb}
+use Prim.Native.Nat.{ℕ}
 use Rattle.words.specs.Word.{Word}
 use Rattle.algebra.specs.Poly.{Poly}
-use Rattle.overlaps.specs.Overlaps.{leads, overlaps}
+use Rattle.overlaps.specs.Overlaps.{leads}
 use Rattle.overlaps.specs.Listing.{overlapText}
 use Rattle.package.specs.Package.{Package, Outcome, refused, read, readPackage}
 use Rattle.acceptance.specs.Content.{basis}
-use Rattle.acceptance.specs.Check.{Verdict, refusal, fine, thenJudge, leadsJudged, apartJudged, basisJudged}
-use Rattle.sumlines.specs.Told.{told}
-use Rattle.sumlines.proofs.ToldNumbers.{told-refused, told-fine}
+use Rattle.acceptance.specs.Check.{Verdict, refusal, fine, basisJudged}
 use Rattle.services.proofs.Room.{refusedList}
 use Rattle.acceptance.specs.Acceptance.{judgedBy}
 use Rattle.services.specs.Services.{listable, wordsListed, fitted, listAnswer, listOutput, listedAs, listedInto}
 use Rattle.listing.specs.ListingParts.{verdictListed, verdictOutput, basisListed, basisOutput}
 
--- 8 where a polynomial is zero or does not lead with 1.
-lead-judged : (ps : List Poly) (r : ℕ) → told 8 r ≡ leadsJudged ps 1 → (r ≡ 0 → ⊥) → basisJudged ps ≡ refusal 8 r
-unfolding basisJudged thenJudge
-lead-judged ps r e l = ap (λ (v : Verdict). thenJudge v (apartJudged (leads ps) (leads ps) 1)) (sym e ∙ told-refused 8 r l)
-
--- Then 9 where a leading word holds another, or nothing.
-lead-fine : (ps : List Poly) (r : ℕ) → told 8 r ≡ leadsJudged ps 1 → r ≡ 0 → basisJudged ps ≡ apartJudged (leads ps) (leads ps) 1
-unfolding basisJudged thenJudge
-lead-fine ps r e z = ap (λ (v : Verdict). thenJudge v (apartJudged (leads ps) (leads ps) 1)) (sym e ∙ told-fine 8 r .1 z)
-
-module _ (ps : List Poly) (r : ℕ) (e : told 8 r ≡ leadsJudged ps 1) where
-  pub wrong-lead : (room : ℕ) → (r ≡ 0 → ⊥) → basisListed room ps ≡ refusedList 8 r
-  unfolding verdictListed
-  wrong-lead room l = ap (verdictListed room ps) (lead-judged ps r e l)
-
-  pub wrong-lead-kept : (out : List ℕ) → (r ≡ 0 → ⊥) → basisOutput out ps ≡ out
-  unfolding verdictOutput
-  wrong-lead-kept out l = ap (verdictOutput out ps) (lead-judged ps r e l)
-
-  module _ (z : r ≡ 0) (ws : List Word) (w : ws ≡ leads ps) (k : ℕ) (d : told 9 k ≡ apartJudged ws ws 1) where
-    apart-told : basisJudged ps ≡ told 9 k
-    apart-told = lead-fine ps r e z ∙ sym (d ∙ ap (λ (us : List Word). apartJudged us us 1) w)
-
-    pub held-lead : (room : ℕ) → (k ≡ 0 → ⊥) → basisListed room ps ≡ refusedList 9 k
+-- A basis that is refused by 8 or 9, and one that is not.
+module _ (ps : List Poly) where
+  module _ (n k : ℕ) (e : basisJudged ps ≡ refusal n k) where
+    pub refused-listed : (room : ℕ) → basisListed room ps ≡ refusedList n k
     unfolding verdictListed
-    held-lead room l = ap (verdictListed room ps) (apart-told ∙ told-refused 9 k l)
+    refused-listed room = ap (verdictListed room ps) e
 
-    pub held-lead-kept : (out : List ℕ) → (k ≡ 0 → ⊥) → basisOutput out ps ≡ out
+    pub refused-kept : (out : List ℕ) → basisOutput out ps ≡ out
     unfolding verdictOutput
-    held-lead-kept out l = ap (verdictOutput out ps) (apart-told ∙ told-refused 9 k l)
+    refused-kept out = ap (verdictOutput out ps) e
 
-    pub fine-listed : (room : ℕ) → k ≡ 0 → basisListed room ps ≡ wordsListed room ws
+  module _ (ws : List Word) (w : ws ≡ leads ps) (e : basisJudged ps ≡ fine) where
+    pub fine-listed : (room : ℕ) → basisListed room ps ≡ wordsListed room ws
     unfolding verdictListed
-    fine-listed room l = ap (verdictListed room ps) (apart-told ∙ told-fine 9 k .1 l) ∙ ap (wordsListed room) (sym w)
+    fine-listed room = ap (verdictListed room ps) e ∙ ap (wordsListed room) (sym w)
 
-    pub fine-written : (out : List ℕ) → k ≡ 0 → basisOutput out ps ≡ fitted (overlapText ws) out
+    pub fine-written : (out : List ℕ) → basisOutput out ps ≡ fitted (overlapText ws) out
     unfolding verdictOutput
-    fine-written out l = ap (verdictOutput out ps) (apart-told ∙ told-fine 9 k .1 l) ∙ ap (λ (us : List Word). fitted (overlapText us) out) (sym w)
+    fine-written out = ap (verdictOutput out ps) e ∙ ap (λ (us : List Word). fitted (overlapText us) out) (sym w)
 
 -- A package that does not read.
 pub unread-listed : (bytes : List ℕ) (n k room : ℕ) → refused n k ≡ readPackage bytes → listedAs bytes room ≡ refusedList n k

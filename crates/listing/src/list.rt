@@ -1,19 +1,20 @@
 // list_package: the overlaps of a package's leading words, as the text of document 01.
 
+use basis::BasisAnswer;
+use basis::basis::judge_basis;
 use listmeasuring::measuring::measure;
 use listwriting::listing::write_list;
 use package::Reading;
 use reading::read::read_package;
 use services::Listed;
-use sumlines::holding::first_holding;
-use sumlines::leading::leading_words;
 ghost use mathlib.Core.Path.{_≡_};
-ghost use Prim.Native.Nat.{_+_, _≤_, _<_};
+ghost use Prim.Native.Nat.{_≤_};
 ghost use lib.ListN.{length};
 ghost use Rattle.words.specs.Laid.{laidWords, Laid};
 ghost use Rattle.overlaps.specs.Position.{AtMost24};
 ghost use Rattle.overlaps.specs.Listing.{overlapText};
-ghost use Rattle.working.specs.Family.{familyAt, Terms, Runs};
+ghost use Rattle.working.specs.Family.{familyAt};
+ghost use Rattle.basis.specs.Lies.{BasisLies};
 ghost use Rattle.services.specs.Services.{wordsListed, fitted, listedAs, listedInto};
 ghost use Rattle.listing.specs.ListingParts.{basisListed, basisOutput};
 
@@ -50,27 +51,23 @@ fn list_words(heads: &[usize], headlens: &[usize], bytes: &[u8], n: usize, out: 
 
 // Refusals 8 and 9 for the count polynomials of a basis that was read, and the list where there is none.
 fn list_basis(
-    p: u32,
     coefs: &[u32],
-    starts: &[usize],
-    lens: &[usize],
+    starts: &[u32],
+    lens: &[u8],
     bytes: &[u8],
     firsts: &[usize],
     base: usize,
     count: usize,
-    m: usize,
     out: &mut [u8],
 ) -> Listed
-    requires { ⌜ Terms p (now coefs) (now starts) (now lens) (now bytes) m ⌝ }
-    requires { ⌜ Runs (now firsts) base count m ⌝ }
+    requires { ⌜ BasisLies (now coefs) (now starts) (now lens) (now bytes) (now firsts) base count ⌝ }
     requires { ⌜ count ≤ 64 ⌝ }
     ensures { λ r. ⌜ r ≡ basisListed (length (now (out .entry))) (familyAt (now (coefs .entry)) (now (starts .entry)) (now (lens .entry)) (now (bytes .entry)) (now (firsts .entry)) base count) ⌝ }
     ensures { λ _. ⌜ now (out .exit) ≡ basisOutput (now (out .entry)) (familyAt (now (coefs .entry)) (now (starts .entry)) (now (lens .entry)) (now (bytes .entry)) (now (firsts .entry)) base count) ⌝ }
 {
     let mut heads = [0usize; 64];
     let mut headlens = [0usize; 64];
-    let wrong = leading_words(
-        p,
+    let b = judge_basis(
         coefs,
         starts,
         lens,
@@ -78,16 +75,11 @@ fn list_basis(
         firsts,
         base,
         count,
-        m,
         &mut heads,
         &mut headlens,
     );
-    if wrong != 0 {
-        return refusal(8, wrong as u64);
-    }
-    let held = first_holding(&heads, &headlens, bytes, count);
-    if held != 0 {
-        return refusal(9, held as u64);
+    if let BasisAnswer::Unsound { number, place } = b {
+        return refusal(number as u64, place as u64);
     }
     list_words(&heads, &headlens, bytes, count, out)
 }
@@ -97,11 +89,11 @@ pub fn list_package(package: &[u8], out: &mut [u8]) -> Listed
     ensures { λ r. ⌜ r ≡ listedAs (now («package» .entry)) (length (now (out .entry))) ⌝ }
     ensures { λ _. ⌜ now (out .exit) ≡ listedInto (now («package» .entry)) (now (out .entry)) ⌝ }
 {
-    let mut kinds = [0u32; 1024];
-    let mut items = [0u32; 1024];
+    let mut kinds = [0u8; 1024];
+    let mut items = [0u8; 1024];
     let mut coefs = [0u32; 1024];
-    let mut starts = [0usize; 1024];
-    let mut lens = [0usize; 1024];
+    let mut starts = [0u32; 1024];
+    let mut lens = [0u8; 1024];
     let mut firsts = [0usize; 98];
     let r = read_package(
         package,
@@ -120,7 +112,6 @@ pub fn list_package(package: &[u8], out: &mut [u8]) -> Listed
             at,
             line,
         } => list_basis(
-            head.p,
             &coefs,
             &starts,
             &lens,
@@ -128,7 +119,6 @@ pub fn list_package(package: &[u8], out: &mut [u8]) -> Listed
             &firsts,
             head.gens as usize + 1,
             head.basis as usize,
-            terms,
             out,
         ),
     }

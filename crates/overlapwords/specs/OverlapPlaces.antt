@@ -1,16 +1,13 @@
 -- Overlaps as they are found: the overlap that is present, and those behind it.
 use mathlib.Core.Bool.{true, false}
-use mathlib.Core.List.{List, [], _∷_, _++_}
-use Prim.Native.Nat.{ℕ, _+_, _-_, _*_, _≤_, _<_}
-use lib.ListN.{getD, drop}
-use Rattle.text.specs.Pieces.{part}
-use Rattle.words.specs.Word.{Word, around}
-use Rattle.words.specs.Laid.{laidWord}
+use mathlib.Core.List.{List, [], _∷_}
+use Prim.Native.Nat.{ℕ, _+_, _*_, _≤_, _<_}
+use lib.ListN.{getD}
+use Rattle.words.specs.Word.{Word}
 use Rattle.overlaps.specs.declared.Cursor.{Cursor}
 use Rattle.overlaps.specs.Overlaps.{Overlap}
 use Rattle.overlaps.specs.Position.{overlapsAt, overlapOf, behind}
 use Rattle.overlapwords.specs.declared.OverlapAt.{OverlapAt}
-use Rattle.sumlines.specs.declared.SumAt.{SumAt}
 
 -- The place of an overlap among the words, counted from 0.
 abbrev pub cursorOf : OverlapAt → Cursor
@@ -33,11 +30,3 @@ pub record Overlapped (lens : List ℕ) (n : ℕ) (f : OverlapAt) : Type 0 where
   pub short-second : getD lens (f .second) 0 ≤ 24
   pub below-first : f .shared < getD lens (f .first) 0
   pub below-second : f .shared < getD lens (f .second) 0
-
--- The overlap word of words that lie in bytes: the first word, followed by the rest of the second.
-abbrev pub laidOverlap : List ℕ → List ℕ → List ℕ → OverlapAt → Word
-laidOverlap starts lens bytes f = laidWord starts lens bytes (f .first) ++ drop (f .shared) (laidWord starts lens bytes (f .second))
-
--- left × the word that a line names × right.
-abbrev pub laidTop : List ℕ → List ℕ → List ℕ → SumAt → Word
-laidTop starts lens bytes s = around (part bytes (s .left) (s .leftlen)) (part bytes (s .right) (s .rightlen)) (laidWord starts lens bytes (s .of - 1))

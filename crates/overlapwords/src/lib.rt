@@ -1,7 +1,6 @@
-// Overlaps one after the other, with the words and the difference of each.
+// Overlaps one after the other, and how many there are.
 
 pub mod overlap_at;
-pub mod overlap_words;
 
 // An overlap of two leading words, counted from 0, if one is present.
 pub struct OverlapAt {

@@ -15,6 +15,7 @@ pub mod CountsTexts
 pub mod HeadTexts
 pub mod TermTexts
 pub mod TermBlockTexts
+pub mod AcceptedTerms
 pub mod SumTexts
 pub mod SumBlockTexts
 pub mod WrittenBlocks

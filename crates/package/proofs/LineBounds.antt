@@ -48,13 +48,14 @@ word-letters most letters w l = go (ltb most (length w))
     go true h = absurd (false≢true h)
     go false h = all-wider 97 (96 + letters) 122 w (omega arith) h
 
-items-most : (h : Head) (k : ℕ) → HeadBounds h → itemsOf h k ≤ 64
+-- The items of a kind.
+pub items-most : (h : Head) (k : ℕ) → h .gens ≤ 32 → h .basis ≤ 64 → itemsOf h k ≤ 64
 unfolding itemsOf
-items-most h k b = go (eqb k termG)
+items-most h k g b = go (eqb k termG)
   where
     go : (t : Bool) → (elim t [ true ↦ h .gens | false ↦ h .basis ]) ≤ 64
-    go true = let g = b .gens in omega arith
-    go false = b .basis
+    go true = omega arith
+    go false = b
 
 -- A term line in bounds.
 pub record TermNumbers (i c : ℕ) (w : List ℕ) : Type 0 where
@@ -72,7 +73,7 @@ term-numbers h lim k i c w b = go (within 1 (itemsOf h k) i) (coefFits (h .p) c)
     go true false x y e = absurd (false≢true e)
     go true true x y e =
         let n = within-bounds 1 (itemsOf h k) i x in
-        let m = items-most h k b in
+        let m = items-most h k (b .gens) (b .basis) in
         let q = b .most in
         record {
           item = omega (arith, n .1);

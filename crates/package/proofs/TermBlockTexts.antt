@@ -23,7 +23,7 @@ use Rattle.text.specs.Word.{word}
 
 -- A line that is accepted is the text of a term in order.
 module _ (h : Head) (lim : Limits) (a : LineAbove) (n : ℕ) (l : List ℕ) (k i c : ℕ) (w : List ℕ) (e : judgeTerm h lim a n l ≡ accept k i c w) where
-  abbrev Accepted : Type 0
+  abbrev pub Accepted : Type 0
   Accepted = (l ≡ writeFields (termFields k i c w)) × TermInOrder h lim a n (record { kind = k; item = i; coef = c; word = w })
 
   refused-not : (v : ℕ) → refusedBy v ≡ judgeTerm h lim a n l → ⊥
@@ -52,7 +52,7 @@ module _ (h : Head) (lim : Limits) (a : LineAbove) (n : ℕ) (l : List ℕ) (k i
   by-form noTerm q = absurd (refused-not 2 (judge-2 h lim a n l q))
   by-form (term k′ i′ c′ w′) q = by-tests k′ i′ c′ w′ q (termFits h lim k′ i′ c′ w′) (follows a k′ i′ w′) (hasRoom lim a n k′ i′) refl refl refl
 
-  accepted : Accepted
+  pub accepted : Accepted
   accepted = by-form (termForm (fields l)) refl
 
 -- The lines of block 2, read behind the terms ts₀: they are the text of more terms in order, and the names line of block 3.

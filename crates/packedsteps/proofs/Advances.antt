@@ -10,9 +10,9 @@ use Rattle.algebra.specs.Steps.{stepped}
 use Rattle.working.specs.Change.{single}
 use Rattle.working.proofs.Terms.{terms-length, terms-at}
 use Rattle.leads.specs.LeadCodes.{leadCodesIn}
-use Rattle.shortform.specs.Search.{termOf, NoSpots}
-use Rattle.shortform.specs.declared.Next.the-variants.{Reducible}
-use Rattle.running.proofs.Multiples.{stepped-no-spots}
+use Rattle.packedsteps.specs.Spots.{termOf, NoSpots}
+use Rattle.packedsteps.specs.declared.Next.the-variants.{Reducible}
+use Rattle.packedsteps.proofs.TermsBefore.{stepped-no-spots}
 use Rattle.table.specs.Table.{fieldIn, orderIn}
 use Rattle.table.specs.Polynomials.{basisIn}
 use Rattle.table.specs.Tabled.{Tabled}

@@ -3,19 +3,19 @@ use mathlib.Core.Path.{_≡_, sym, _∙_, ap}
 use mathlib.Core.List.{List, map}
 use Prim.Native.Nat.{ℕ, _+_, _-_, _*_, _%_, _≤_}
 use native.Mathlib.Omega.{arith}
-use lib.ListN.{length, take, drop, length-map}
+use lib.ListN.{length, take, drop}
 use Rattle.lists.proofs.Maps.{map-take, map-drop}
 use Rattle.algebra.specs.Spot.{spot, found}
 use Rattle.algebra.proofs.Spots.{spot-found}
-use Rattle.stepping.proofs.WordParts.{spot-within}
+use Rattle.packedsteps.proofs.SpotsWithin.{spot-within}
 use Rattle.packedwords.specs.Packed.{unpacked, Packs}
-use Rattle.packedwords.proofs.Packing.{unpacked-length}
 use Rattle.table.specs.Table.{gensIn, letterIn, firstIn, sizeIn, blocksIn}
 use Rattle.table.specs.Words.{wordOf, Sixfold}
 use Rattle.table.specs.Polynomials.{basisIn}
 use Rattle.table.specs.Tabled.{Tabled}
 use Rattle.packedsteps.specs.Cuts.{CutAt}
 use Rattle.packedsteps.proofs.EvenSizes.{even-size, even-held}
+use Rattle.table.proofs.WordSizes.{word-size}
 use Rattle.table.proofs.LeadingTerms.{LeadTerm, lead-term}
 
 -- The numbers of a cut: the leading word's letters and those of the whole, and their sizes.
@@ -33,7 +33,7 @@ module _ (t : List ℕ) (T : Tabled t) (z : ℕ) (bs : List ℕ) (h : Sixfold t 
       let first = firstIn t (gensIn t + g) in
       let within = spot-within (basisIn t) (wordOf t z bs) i g e in
       let letters = L .letters in
-      let all = length-map (unpacked (z % 256) bs) (letterIn t) ∙ unpacked-length (z % 256) bs in
+      let all = word-size t z bs in
       record {
         leading = L;
         fits = omega arith;

@@ -1,30 +1,16 @@
--- Where each letter weighs 1, a word's weight is its length, and its size 257 × length.
-use mathlib.Core.Path.{_≡_, refl, sym, _∙_}
-use mathlib.Core.List.{List, [], _∷_}
-use Prim.Native.Nat.{ℕ, suc, _*_, _/_, _%_, _≤_}
+-- Where each letter weighs 1, a word's size is 257 × length.
+use mathlib.Core.Path.{_≡_, sym, _∙_}
+use mathlib.Core.List.{List}
+use Prim.Native.Nat.{ℕ, _*_, _/_, _%_, _≤_}
 use native.Mathlib.Omega.{arith}
-use lib.ListN.{length}
-use Rattle.words.specs.Word.{Word}
-use Rattle.words.specs.Weighted.{weight}
-use Rattle.packedwords.specs.Packed.{Codes, unpacked, Packs}
+use Rattle.packedwords.specs.Packed.{unpacked, Packs}
 use Rattle.packedwords.proofs.Packing.{unpacked-codes, unpacked-length}
-use Rattle.table.specs.Table.{weightIn}
 use Rattle.table.specs.Words.{Held, Keys}
+use Rattle.table.proofs.WordSizes.{even-weight, held-weight}
 
 module _ (t : List ℕ) (keys : Keys t) where
-  even-weight : (u : Word) → Codes u → weight (weightIn t) u ≡ length u
-  unfolding weight
-  even-weight [] c = refl
-  even-weight (a ∷ u) c =
-      let first = keys .even a (c 0) in
-      let rest = even-weight u (λ i. c (suc i)) in
-      omega arith
-
   pub even-size : (z : ℕ) (bs : List ℕ) → Held t z bs → z ≡ 257 * (z % 256)
-  even-size z bs h =
-      let u = unpacked (z % 256) bs in
-      let e = h .weighed ∙ even-weight u (unpacked-codes (z % 256) bs) ∙ unpacked-length (z % 256) bs in
-      omega arith
+  even-size z bs h = let e = held-weight t keys z bs h in omega arith
 
   pub even-held : (n : ℕ) (bs : List ℕ) → n ≤ 72 → Packs n bs → Held t (257 * n) bs
   even-held n bs short p =
@@ -33,5 +19,5 @@ module _ (t : List ℕ) (keys : Keys t) where
       let u = unpacked n bs in
       record {
         packs = rw letters p;
-        weighed = heavy ∙ rw letters (sym (even-weight u (unpacked-codes n bs) ∙ unpacked-length n bs));
+        weighed = heavy ∙ rw letters (sym (even-weight t keys u (unpacked-codes n bs) ∙ unpacked-length n bs));
       }

@@ -7,7 +7,7 @@ use native.Mathlib.Omega.{arith}
 use Rattle.words.specs.Word.{Word}
 use Rattle.algebra.specs.Spot.{nowhere, found}
 use Rattle.leads.specs.SpotOfWords.{spotOfWords}
-use Rattle.shortform.specs.declared.Next.the-variants.{Reduced, Reducible}
+use Rattle.packedsteps.specs.declared.Next.the-variants.{Reduced, Reducible}
 use Rattle.packedsteps.specs.Search.{NoneBetween, FirstFound}
 
 module _ (ls : List Word) (W : ℕ → Word) (from k : ℕ) (h : NoneBetween ls W from k) where

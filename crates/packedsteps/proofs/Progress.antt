@@ -11,9 +11,9 @@ use Rattle.algebra.specs.Poly.{Poly}
 use Rattle.algebra.specs.Spot.{reduced, target}
 use Rattle.algebra.specs.Steps.{Ended, over, run}
 use Rattle.working.proofs.Terms.{terms-length}
-use Rattle.shortform.specs.Search.{NoSpots}
-use Rattle.shortform.specs.declared.Ran.the-variants.{Answer, Over, Spent}
-use Rattle.running.proofs.RunTurns.{run-answer, run-spent, run-over, run-next}
+use Rattle.packedsteps.specs.Spots.{NoSpots}
+use Rattle.packedsteps.specs.declared.Ran.the-variants.{Answer, Over, Spent}
+use Rattle.packedsteps.proofs.RunTurns.{run-answer, run-spent, run-over, run-next}
 use Rattle.table.specs.Table.{fieldIn, orderIn}
 use Rattle.table.specs.Polynomials.{basisIn}
 use Rattle.packedterms.specs.Formula.{termAt, formula, Working}

@@ -1,11 +1,10 @@
 -- A step at a term of the formula: its word is cut, the products fit a place, and what is taken away is the step's line.
 use mathlib.Core.Path.{_≡_, _∙_, ap₂}
-use mathlib.Core.Logic.{inl}
 use mathlib.Core.List.{List}
 use Prim.Native.Nat.{ℕ, suc, _+_, _-_, _*_, _%_, _≤_, _<_}
 use native.Mathlib.Decide.{decLt}
 use native.Mathlib.Omega.{arith}
-use lib.ListN.{length, getD, length-map}
+use lib.ListN.{length, getD}
 use Rattle.lists.proofs.Parts.{part-length}
 use Rattle.words.specs.Word.{Word}
 use Rattle.algebra.specs.Poly.{Term, Poly, scale, shift}
@@ -16,10 +15,8 @@ use Rattle.algebra.specs.Steps.{takeAway, lineAt, stepped}
 use Rattle.algebra.proofs.Spots.{spot-found}
 use Rattle.working.proofs.Families.{family-written}
 use Rattle.working.proofs.Falling.{written-falls}
-use Rattle.running.proofs.NotLonger.{le-length}
-use Rattle.packedwords.specs.Packed.{unpacked}
-use Rattle.packedwords.proofs.Packing.{unpacked-length}
-use Rattle.table.specs.Table.{gensIn, fieldIn, orderIn, letterIn, firstIn, sizeIn, blocksIn}
+use Rattle.packedsteps.proofs.NotLonger.{below-length}
+use Rattle.table.specs.Table.{gensIn, fieldIn, orderIn, firstIn, sizeIn, blocksIn}
 use Rattle.table.specs.Words.{wordOf, Sixfold}
 use Rattle.table.specs.Polynomials.{wordIn, termIn, polynomialIn, basisIn}
 use Rattle.table.specs.Tabled.{Tabled}
@@ -30,6 +27,7 @@ use Rattle.itemadding.specs.LeadPlace.{LeadPlace}
 use Rattle.packedsteps.specs.Cuts.{CutAt}
 use Rattle.packedsteps.specs.Lines.{LineTaken}
 use Rattle.packedsteps.specs.declared.Cut.{Cut}
+use Rattle.table.proofs.WordSizes.{word-size}
 use Rattle.table.proofs.LeadingTerms.{LeadTerm}
 
 -- The six blocks of a term's place hold its word.
@@ -45,9 +43,6 @@ term-held t c l w o n W k h =
 
 -- No word of a basis polynomial is longer than its leading word.
 module _ (t : List ℕ) (T : Tabled t) (g : ℕ) (L : LeadTerm t g) where
-  letters-in : (i : ℕ) → length (wordIn t i) ≡ sizeIn t i % 256
-  letters-in i = length-map (unpacked (sizeIn t i % 256) (blocksIn t i)) (letterIn t) ∙ unpacked-length (sizeIn t i % 256) (blocksIn t i)
-
   polynomial-written : Written (fieldIn t) (orderIn t) (polynomialIn t (gensIn t + g))
   polynomial-written = rw (L .polynomial) at (family-written (fieldIn t) (orderIn t) (basisIn t) (T .basis-written) g)
 
@@ -57,14 +52,15 @@ module _ (t : List ℕ) (T : Tabled t) (g : ℕ) (L : LeadTerm t g) where
       first : ℕ
       first = firstIn t (gensIn t + g)
 
+      size : (j : ℕ) → length (wordIn t j) ≡ sizeIn t j % 256
+      size j = word-size t (sizeIn t j) (blocksIn t j)
+
       go : Dec (firstIn t (gensIn t + g) < i) → sizeIn t i % 256 ≤ sizeIn t (firstIn t (gensIn t + g)) % 256
       go (no h) = let e : i ≡ firstIn t (gensIn t + g) = omega arith in rw e (omega arith)
       go (yes h) =
           let below = written-falls (fieldIn t) (orderIn t) (termIn t) (firstIn t (gensIn t + g)) (firstIn t (suc (gensIn t + g)) - firstIn t (gensIn t + g)) polynomial-written (firstIn t (gensIn t + g)) i (omega arith) h (omega arith) in
-          let short = le-length (wordIn t i) (wordIn t (firstIn t (gensIn t + g))) (inl below) in
-          let a = letters-in i in
-          let b = letters-in (firstIn t (gensIn t + g)) in
-          omega arith
+          let short = below-length (wordIn t i) (wordIn t (firstIn t (gensIn t + g))) below in
+          omega (arith, size i, size (firstIn t (gensIn t + g)))
 
   -- So the products of a step fit where the word that is cut did.
   pub step-fits : {v : Word} {z i : ℕ} {r : Cut} {left right : List ℕ} → CutAt t v z i g r left right → z % 256 ≤ 72
@@ -88,8 +84,9 @@ module _ (t : List ℕ) (u : Term) (z i g : ℕ) (r : Cut) (left right : List �
     line = ap₂ (λ (x y : Word). record { coef = u .coef; left = x; of = g; right = y }) (C .left-word) (C .right-word);
   }
 
-  pub step-sum : (f : Poly) (y : ℕ) → y ≡ fieldIn t .neg (u .coef) → family (basisIn t) g ≡ polynomialIn t (gensIn t + g)
-      → plus (fieldIn t) (orderIn t) f (scale (fieldIn t) y (shift (wordOf t (r .left) left) (wordOf t (r .right) right) (polynomialIn t (gensIn t + g))))
+  pub step-sum : (f : Poly) → family (basisIn t) g ≡ polynomialIn t (gensIn t + g)
+      → plus (fieldIn t) (orderIn t) f
+      (scale (fieldIn t) (fieldIn t .neg (u .coef)) (shift (wordOf t (r .left) left) (wordOf t (r .right) right) (polynomialIn t (gensIn t + g))))
       ≡ stepped (fieldIn t) (orderIn t) (basisIn t) f u i g
   unfolding stepped takeAway lineAt
-  step-sum f y e p = rw (e, C .left-word, C .right-word, ← p)
+  step-sum f p = rw (C .left-word, C .right-word, ← p)

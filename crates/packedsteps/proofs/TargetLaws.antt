@@ -15,9 +15,9 @@ use Rattle.working.proofs.Terms.{terms-length, terms-at}
 use Rattle.leads.specs.LeadCodes.{leadCodesFrom, leadCodesIn, codesIn}
 use Rattle.leads.specs.SpotOfWords.{spotOfWords}
 use Rattle.leads.proofs.SpotOfTable.{spot-of-table}
-use Rattle.shortform.specs.Search.{termOf, NoSpots}
-use Rattle.shortform.specs.declared.Next.the-variants.{Reduced, Reducible}
-use Rattle.stepping.proofs.Targets.{no-spots-next, target-found, target-reduced}
+use Rattle.packedsteps.specs.Spots.{termOf, NoSpots}
+use Rattle.packedsteps.specs.declared.Next.the-variants.{Reduced, Reducible}
+use Rattle.packedsteps.proofs.Targets.{no-spots-next, target-found, target-reduced}
 use Rattle.packedwords.specs.Packed.{Codes, unpacked}
 use Rattle.packedwords.proofs.Packing.{unpacked-codes}
 use Rattle.table.specs.Table.{gensIn, basisCountIn, letterIn, firstIn, sizeIn, blocksIn}

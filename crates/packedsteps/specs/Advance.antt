@@ -8,7 +8,7 @@ use Rattle.algebra.specs.Spot.{reduced, reducible, target}
 use Rattle.algebra.specs.Steps.{stepped}
 use Rattle.leads.specs.CodeIndex.{CodeIndexed}
 use Rattle.leads.specs.LeadCodes.{leadCodesIn, BasisLeads}
-use Rattle.shortform.specs.Search.{NoSpots}
+use Rattle.packedsteps.specs.Spots.{NoSpots}
 use Rattle.table.specs.Table.{fieldIn, orderIn}
 use Rattle.table.specs.Polynomials.{basisIn}
 use Rattle.packedterms.specs.Formula.{formula, Working}

@@ -1,3 +1,4 @@
+pub mod Spots
 pub mod Cuts
 pub mod Lines
 pub mod Search

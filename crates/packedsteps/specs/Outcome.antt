@@ -2,8 +2,8 @@
 use mathlib.Core.List.{List}
 use Prim.Native.Nat.{ℕ, _≤_}
 use Rattle.algebra.specs.Steps.{Ended, answer, over, spent}
-use Rattle.shortform.specs.declared.Ran.{Ran}
-use Rattle.shortform.specs.declared.Ran.the-variants.{Answer, Over, Spent}
+use Rattle.packedsteps.specs.declared.Ran.{Ran}
+use Rattle.packedsteps.specs.declared.Ran.the-variants.{Answer, Over, Spent}
 use Rattle.packedterms.specs.Formula.{formula, Working}
 
 -- The answer, with the arrays as they then are.

@@ -7,8 +7,8 @@ use Rattle.words.specs.Word.{Word}
 use Rattle.algebra.specs.Spot.{nowhere, found}
 use Rattle.packedwords.specs.Packed.{unpacked, Packs}
 use Rattle.leads.specs.SpotOfWords.{spotOfWords}
-use Rattle.shortform.specs.declared.Next.{Next}
-use Rattle.shortform.specs.declared.Next.the-variants.{Reduced, Reducible}
+use Rattle.packedsteps.specs.declared.Next.{Next}
+use Rattle.packedsteps.specs.declared.Next.the-variants.{Reduced, Reducible}
 use Rattle.packedterms.specs.Formula.{blocksAt}
 
 -- The codes of word i, at the place that entry i of o names.

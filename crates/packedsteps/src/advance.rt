@@ -1,14 +1,14 @@
 // One step of a run within a budget.
 
 use crate::Advanced;
+use crate::Next;
 use crate::search::find_target;
 use crate::step::step;
-use shortform::Next;
 use table::Table;
 ghost use mathlib.Core.Path.{_≡_};
 ghost use Prim.Native.Nat.{_≤_};
 ghost use lib.ListN.{length};
-ghost use Rattle.shortform.specs.Search.{NoSpots};
+ghost use Rattle.packedsteps.specs.Spots.{NoSpots};
 ghost use Rattle.table.specs.Polynomials.{basisIn};
 ghost use Rattle.table.specs.Tabled.{Tabled};
 ghost use Rattle.packedterms.specs.Formula.{formula, Working};

@@ -7,6 +7,17 @@ pub mod run;
 pub mod search;
 pub mod step;
 
+// Where a step applies: the term's number, the leftmost place of a leading word in its word, and the number, from 1, of the polynomial that it
+// leads; or nowhere.
+pub enum Next {
+    Reduced,
+    Reducible {
+        term: usize,
+        place: usize,
+        number: usize,
+    },
+}
+
 // A word cut at a leading word: the item that the leading word leads, and the sizes of what stands left and right of it.
 pub struct Cut {
     pub item: usize,
@@ -36,4 +47,11 @@ pub enum Advanced {
         left: usize,
         right: usize,
     },
+}
+
+// How running ends: with an answer of so many terms after so many steps; with a step that leaves over 512 terms; or with the budget spent.
+pub enum Ran {
+    Answer { terms: usize, steps: u32 },
+    Over { step: u32 },
+    Spent,
 }

@@ -1,8 +1,8 @@
 // Steps one after the other, within a budget.
 
 use crate::Advanced;
+use crate::Ran;
 use crate::advance::advance;
-use shortform::Ran;
 use table::Table;
 ghost use mathlib.Core.Path.{_≡_};
 ghost use Prim.Native.Nat.{_≤_};

@@ -1,9 +1,9 @@
 // The first term whose word has a leading word inside.
 
+use crate::Next;
 use leads::Spotted;
 use leads::spotting::leftmost_lead_in;
 use packedterms::search::wide;
-use shortform::Next;
 ghost use mathlib.Core.Path.{_≡_};
 ghost use mathlib.Core.List.{List};
 ghost use Prim.Native.Nat.{_%_, _<_};

@@ -3,11 +3,9 @@
 use crate::Stepped;
 use crate::cutting::cut;
 use crate::cutting::take_place;
-use field::arithmetic::neg;
-use itemadding::leading_term::add_onto_item;
+use itemadding::leading_term::take_onto_item;
 use packedterms::search::wide;
 use table::Table;
-use table::numbers::prime_in;
 ghost use mathlib.Core.Path.{_≡_};
 ghost use Prim.Native.Nat.{_+_, _≤_, _<_};
 ghost use lib.ListN.{length, getD};
@@ -56,10 +54,9 @@ pub fn step(
     take_place(&mut word, w, s);
     let at = cut(t, &word, wide(l[s]), i, of, left, right);
     let x = c[s];
-    let y = neg(prime_in(t), x);
-    let r = add_onto_item(
+    let r = take_onto_item(
         t,
-        y,
+        x,
         left,
         at.left,
         at.item,

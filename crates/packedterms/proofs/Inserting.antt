@@ -11,7 +11,7 @@ use Rattle.words.specs.Order.{Lt}
 use Rattle.algebra.specs.Poly.{Term, Poly}
 use Rattle.algebra.specs.Written.{insert}
 use Rattle.working.specs.Change.{single, onto, before}
-use Rattle.termadding.proofs.Inserted.{insert-equal, insert-new, insert-zero}
+use Rattle.working.proofs.Inserted.{insert-equal, insert-new, insert-zero}
 use Rattle.table.specs.Table.{primeIn, fieldIn, orderIn}
 use Rattle.table.specs.Tabled.{Tabled}
 use Rattle.table.specs.Words.{wordOf, Built}

@@ -11,7 +11,7 @@ use Rattle.working.specs.Working.{terms}
 use Rattle.working.specs.Rotation.{rotatedRight, rotatedLeft}
 use Rattle.working.specs.Change.{single, before}
 use Rattle.working.proofs.Terms.{terms-same, terms-right}
-use Rattle.termadding.proofs.Rotations.{left-right, right-below}
+use Rattle.working.proofs.Rotations.{left-right, right-below}
 use Rattle.table.specs.Words.{wordOf, Held, Built}
 use Rattle.packedterms.specs.Change.{PutBefore}
 use Rattle.packedterms.specs.Formula.{blocksAt, placed, termAt, formula, Holds}

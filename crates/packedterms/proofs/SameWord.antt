@@ -15,7 +15,7 @@ use Rattle.working.specs.Working.{terms}
 use Rattle.working.specs.Rotation.{Moved, rotatedRight, rotatedLeft}
 use Rattle.working.specs.Change.{single, onto}
 use Rattle.working.proofs.Terms.{terms-next, terms-cut, terms-same, terms-left}
-use Rattle.termadding.proofs.Rotations.{right-left, left-below}
+use Rattle.working.proofs.Rotations.{right-left, left-below}
 use Rattle.table.specs.Table.{fieldIn}
 use Rattle.packedterms.specs.Change.{AddedOnto}
 use Rattle.packedterms.specs.Formula.{placed, termAt, formula, Holds}

@@ -1,14 +1,21 @@
 -- Six blocks stored at a place: the place has them, and every other place has the blocks that it had.
-use mathlib.Core.Path.{_≡_, refl, sym, _∙_}
-use mathlib.Core.List.{List, [], _∷_}
+use mathlib.Core.Path.{_≡_, refl, sym, ap, _∙_}
+use mathlib.Core.List.{List, [], _∷_, _++_, append-assoc}
 use Prim.Native.Nat.{ℕ, suc, _+_, _*_, _≤_, _<_}
 use native.Mathlib.Omega.{arith}
-use lib.ListN.{length, getD, set}
-use lib.Seq.{sets, length-sets, getD-set-other, ext-getD}
+use lib.ListN.{length, getD, take, drop, set}
+use lib.Seq.{sets, sets-eq, length-sets, length-take-le, take-at, drop-at, getD-set-other, ext-getD}
 use Rattle.lists.proofs.Parts.{part-length}
 use Rattle.packing.proofs.Entries.{part-at}
-use Rattle.working.proofs.Parts.{part-new}
 use Rattle.packedterms.specs.Formula.{blocksAt}
+
+-- The entries that were stored.
+part-new : (w v : List ℕ) (a : ℕ) → a + length v ≤ length w → take (length v) (drop a (sets w a v)) ≡ v
+part-new w v a h =
+    let n : length (take a w) ≡ a = length-take-le a w (omega arith) in
+    ap (λ (x : List ℕ). take (length v) (drop a x)) (sets-eq v w a h ∙ append-assoc (take a w) v (drop (a + length v) w))
+    ∙ ap (take (length v)) (drop-at (take a w) (v ++ drop (a + length v) w) a n)
+    ∙ take-at v (drop (a + length v) w) (length v) refl
 
 -- An entry where nothing was stored.
 sets-other : (v w : List ℕ) (a j : ℕ) → ((i : ℕ) → i < length v → j ≡ a + i → ⊥) → getD (sets w a v) j 0 ≡ getD w j 0

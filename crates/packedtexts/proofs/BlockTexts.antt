@@ -2,56 +2,27 @@
 use mathlib.Core.Path.{_≡_, refl, sym, _∙_, ap}
 use mathlib.Core.List.{List, [], _∷_, map}
 use Prim.Native.Nat.{ℕ, zero, suc, _+_, _-_, _*_, _/_, _%_, _^_, _≤_, _<_, min}
-use native.Mathlib.Nat.{add-zero, zero-add}
+use native.Mathlib.Nat.{add-zero}
 use native.Mathlib.Omega.{arith}
 use lib.ListN.{length, getD, take, drop, set, length-take, length-drop, length-map}
 use lib.Seq.{sets, drop-cons, drop-drop}
 use Rattle.words.specs.Word.{Word}
+use Rattle.lists.proofs.Maps.{map-at, map-take, map-drop}
 use Rattle.lists.proofs.Parts.{part-length}
 use Rattle.lists.proofs.Stores.{sets-more, sets-none}
-use Rattle.packedwords.specs.Packed.{Codes, value, window, unpacked, Packs}
-use Rattle.packedwords.proofs.Values.{value-front}
-use Rattle.packedwords.proofs.Windows.{window-blocks, window-end}
+use Rattle.packedwords.specs.Packed.{Codes, window, unpacked, Packs}
+use Rattle.packedwords.proofs.Windows.{window-front, window-last}
 use Rattle.packedwords.proofs.Packing.{unpacked-length, unpacked-codes}
 use Rattle.packedwords.proofs.Blocks.{packs-any}
 use Rattle.packedwords.proofs.Parts.{packs-part}
 use Rattle.packing.proofs.Entries.{part-at}
-use Rattle.table.specs.Table.{letterIn}
-use Rattle.packedterms.specs.Formula.{blocksAt, wordAt}
-
-map-at : (f : ℕ → ℕ) (u : List ℕ) (i : ℕ) → i < length u → getD (map f u) i 0 ≡ f (getD u i 0)
-map-at f [] i h = absurd (omega arith)
-map-at f (a ∷ u) zero h = refl
-map-at f (a ∷ u) (suc i) h = map-at f u i (omega arith)
-
-map-take : (f : ℕ → ℕ) (n : ℕ) (u : List ℕ) → map f (take n u) ≡ take n (map f u)
-map-take f zero u = refl
-map-take f (suc n) [] = refl
-map-take f (suc n) (a ∷ u) = ap (f a ∷_) (map-take f n u)
-
-map-drop : (f : ℕ → ℕ) (n : ℕ) (u : List ℕ) → map f (drop n u) ≡ drop n (map f u)
-map-drop f zero u = refl
-map-drop f (suc n) [] = refl
-map-drop f (suc n) (a ∷ u) = map-drop f n u
+use Rattle.packedterms.specs.Formula.{blocksAt}
 
 -- The front of a run stored, and then what is behind it.
 sets-parts : (out v : List ℕ) (a n : ℕ) → sets (sets out a (take n v)) (a + n) (drop n v) ≡ sets out a v
 sets-parts out v a zero = rw add-zero
 sets-parts out [] a (suc n) = refl
 sets-parts out (x ∷ v) a (suc n) = let e : a + suc n ≡ suc a + n = omega arith in rw e (sets-parts (set out a x) v (suc a) n)
-
--- A block of at most twelve letters, moved up by i letters, has letter i in front.
-module _ (u : Word) (c : Codes u) (i : ℕ) where
-  front-letter : window u i / 2 ^ 55 ≡ getD u i 0
-  unfolding value
-  front-letter =
-      value-front (λ (j : ℕ). getD u (i + j) 0) (λ j. c (i + j)) 1 11 ∙ zero-add (getD u (i + 0) 0) ∙ ap (λ (x : ℕ). getD u x 0) (add-zero i)
-
-  next-letter : length u ≤ i + 12 → window u (i + 1) ≡ window u i * 2 ^ 5 % 2 ^ 60
-  next-letter h =
-      window-blocks u c i 1 11 refl
-      ∙ ap (λ (x : ℕ). window u i * 2 ^ 5 % 2 ^ 60 + x / 2 ^ 55) (window-end u (i + 12) h)
-      ∙ add-zero (window u i * 2 ^ 5 % 2 ^ 60)
 
 -- The r letters of the block x.
 module _ (L : ℕ → ℕ) (x r : ℕ) (p : Packs r (x ∷ [])) where
@@ -72,10 +43,10 @@ module _ (L : ℕ → ℕ) (x r : ℕ) (p : Packs r (x ∷ [])) where
 
   pub moved-next : (i y z : ℕ) → y ≡ window (unpacked r (x ∷ [])) i → z ≡ y * 2 ^ 5 % 2 ^ 60 → z ≡ window (unpacked r (x ∷ [])) (i + 1)
   moved-next i y z e q =
-      q ∙ ap (λ (k : ℕ). k * 2 ^ 5 % 2 ^ 60) e ∙ sym (next-letter codes all-codes i (omega (arith, p .fits, unpacked-length r (x ∷ []))))
+      q ∙ ap (λ (k : ℕ). k * 2 ^ 5 % 2 ^ 60) e ∙ sym (window-last codes all-codes i (omega (arith, p .fits, unpacked-length r (x ∷ []))))
 
   pub moved-code : (i y : ℕ) → y ≡ window (unpacked r (x ∷ [])) i → y / 2 ^ 55 < 32
-  moved-code i y e = rw (ap (λ (k : ℕ). k / 2 ^ 55) e ∙ front-letter codes all-codes i) (all-codes i)
+  moved-code i y e = rw (ap (λ (k : ℕ). k / 2 ^ 55) e ∙ window-front codes all-codes i) (all-codes i)
 
   -- stored up to letter i, whose code is in front of y
   pub letter-stored : (out whole : List ℕ) (at i y a : ℕ) → i < r → y ≡ window (unpacked r (x ∷ [])) i → a ≡ L (y / 2 ^ 55)
@@ -83,7 +54,7 @@ module _ (L : ℕ → ℕ) (x r : ℕ) (p : Packs r (x ∷ [])) where
       → sets (set out (at + i) a) (at + (i + 1)) (drop (i + 1) (map L (unpacked r (x ∷ [])))) ≡ whole
   letter-stored out whole at i y a h e d s =
       let same : a ≡ getD letters i 0 =
-      d ∙ ap (λ (k : ℕ). L (k / 2 ^ 55)) e ∙ ap L (front-letter codes all-codes i) ∙ sym (map-at L codes i (omega (arith, unpacked-length r (x ∷ [])))) in
+      d ∙ ap (λ (k : ℕ). L (k / 2 ^ 55)) e ∙ ap L (window-front codes all-codes i) ∙ sym (map-at L codes i (omega (arith, unpacked-length r (x ∷ [])))) in
       let b : at + (i + 1) ≡ at + i + 1 = omega arith in
       rw (same, b) (sets-more letters out i (at + i) (omega (arith, length-letters)) ∙ s)
 
@@ -136,7 +107,3 @@ module _ (L : ℕ → ℕ) (w : List ℕ) (s m : ℕ) (size : s * 6 + 6 ≤ leng
         let a : at + (i + 12) ≡ at + i + 12 = omega arith in
         let b : drop 12 (drop i lettersAt) ≡ drop (i + 12) lettersAt = drop-drop 12 i lettersAt in
         rw (z, part-letters, a, ← b) (sets-parts out (drop i lettersAt) (at + i) 12 ∙ v)
-
--- The word at a place has as many letters as the size there says.
-pub word-length : (t l w : List ℕ) (s : ℕ) → length (wordAt t l w s) ≡ getD l s 0 % 256
-word-length t l w s = length-map (unpacked (getD l s 0 % 256) (blocksAt w s)) (letterIn t) ∙ unpacked-length (getD l s 0 % 256) (blocksAt w s)

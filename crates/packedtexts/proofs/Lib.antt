@@ -1,3 +1,4 @@
 -- Laws of this crate's functions; no other crate cites them.
 mod Loaded
+mod Texts
 mod BlockTexts

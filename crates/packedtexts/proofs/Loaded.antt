@@ -1,18 +1,17 @@
 -- A term behind the others: the word packed into six blocks is built in nine, and the formula has one term more.
 use mathlib.Core.Path.{_≡_, sym, _∙_, ap}
 use mathlib.Core.List.{List, [], _∷_, _++_, map}
-use Prim.Native.Nat.{ℕ, _+_, _*_, _%_, _<_}
+use Prim.Native.Nat.{ℕ, _+_, _%_, _<_}
 use native.Mathlib.Omega.{arith}
-use lib.ListN.{length, take, drop, replicate, length-replicate, take-append-drop}
+use lib.ListN.{length, take, drop, replicate, take-append-drop}
 use Rattle.words.specs.Word.{Word}
 use Rattle.words.specs.Weighted.{weight}
-use Rattle.algebra.specs.Poly.{Term, Poly}
+use Rattle.algebra.specs.Poly.{Term}
 use Rattle.packedwords.specs.Packed.{unpacked, Packs}
 use Rattle.packedwords.proofs.Blocks.{packs-widen}
-use Rattle.working.specs.Working as working
-use Rattle.working.specs.Working.{terms, HoldsNone}
+use Rattle.working.specs.Working.{Arranged}
 use Rattle.working.specs.Change.{single}
-use Rattle.working.proofs.Terms.{terms-cut, terms-next, terms-end}
+use Rattle.working.proofs.Terms.{terms-end}
 use Rattle.table.specs.Table.{letterIn, weightIn}
 use Rattle.table.specs.Words.{wordOf, Sixfold, Built}
 use Rattle.packedterms.specs.Change.{PutBefore}
@@ -40,12 +39,6 @@ module _ (t : List ℕ) (z : ℕ) (bs v : List ℕ) (s : Sixfold t z bs) (low : 
   pub six-word : wordOf t z v ≡ wordOf t z bs
   six-word = ap (map (letterIn t)) (wide .1)
 
--- A run of terms, and one more.
-pub terms-last : (F : ℕ → Term) (n : ℕ) → terms F 0 (n + 1) ≡ terms F 0 n ++ (F n ∷ [])
-terms-last F n =
-    terms-cut F n (n + 1) (omega arith)
-    ∙ ap (λ (f : Poly). terms F 0 n ++ f) (terms-next F n (n + 1) (omega arith) ∙ ap (λ (f : Poly). F n ∷ f) (terms-end F (n + 1) (n + 1) (omega arith)))
-
 -- A term put behind the n terms of a formula.
 module _ (t c l w o : List ℕ) (n x : ℕ) (v : List ℕ) (e : ℕ) (c' l' w' o' : List ℕ) (f : Holds t c l w o n)
     (free : n < 560) (b : Built t e v) (put : PutBefore c l w o n n x v e c' l' w' o') where
@@ -59,13 +52,6 @@ module _ (t c l w o : List ℕ) (n x : ℕ) (v : List ℕ) (e : ℕ) (c' l' w' o
       ∙ rw (q, terms-end F n n (omega arith))
 
 -- Whatever the arrays hold, they hold no terms once the places are named.
-pub none-held : (t c l w o o' : List ℕ) → Room c l w o → length o' ≡ length o → HoldsNone o' → Holds t c l w o' 0
+pub none-held : (t c l w o o' : List ℕ) → Room c l w o → length o' ≡ length o → Arranged o' → Holds t c l w o' 0
 none-held t c l w o o' r e h =
-    let m = length o' in
-    let zeros : working.Room (replicate m 0) (replicate m 0) (replicate (m * 72) 0) m = record {
-      coefs = omega (arith, length-replicate {A = ℕ} m 0);
-      lens = omega (arith, length-replicate {A = ℕ} m 0);
-      letters = omega (arith, length-replicate {A = ℕ} (m * 72) 0);
-    } in
-    holds-none t c l w o' (h (replicate m 0) (replicate m 0) (replicate (m * 72) 0) zeros .arranged)
-    (record { coefs = r .coefs; sizes = r .sizes; blocks = r .blocks; places = e ∙ r .places })
+    holds-none t c l w o' h (record { coefs = r .coefs; sizes = r .sizes; blocks = r .blocks; places = e ∙ r .places })

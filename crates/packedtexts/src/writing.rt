@@ -15,7 +15,7 @@ ghost use lib.Seq.{sets};
 ghost use Rattle.text.specs.Word.{writeWord};
 ghost use Rattle.packedwords.specs.Packed.{unpacked, Packs};
 ghost use Rattle.package.specs.Writing.{writeFormula};
-ghost use Rattle.shortform.specs.FormulaText.{rowText};
+ghost use Rattle.packedtexts.specs.FormulaText.{rowText};
 ghost use Rattle.table.specs.Table.{letterIn};
 ghost use Rattle.packedterms.specs.Formula.{blocksAt, formula, Holds};
 

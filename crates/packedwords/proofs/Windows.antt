@@ -2,7 +2,7 @@
 use mathlib.Core.Path.{_≡_, refl, sym, _∙_, ap, ap₂}
 use mathlib.Core.List.{[], _∷_, _++_}
 use Prim.Native.Nat.{ℕ, zero, suc, _+_, _-_, _*_, _/_, _%_, _^_, _≤_, _<_}
-use native.Mathlib.Nat.{add-zero, add-assoc, div-eq-of-lt}
+use native.Mathlib.Nat.{add-zero, zero-add, add-assoc, div-eq-of-lt}
 use native.Mathlib.Decide.{decLt}
 use native.Mathlib.Omega.{arith}
 use lib.ListN.{length, getD, take, drop, replicate, length-take, List·getD-eq-default}
@@ -36,6 +36,20 @@ window-blocks w c i r t e =
     ∙ rw (e, s) at (value-split (from w i) (λ j. c (i + j)) r t)
     ∙ ap (λ (x : ℕ). window w i * 2 ^ (5 * r) % 2 ^ 60 + x / 2 ^ (5 * t))
     (value-same (after 12 (from w i)) (from w (i + 12)) 12 (λ j l. letter-eq w (sym (add-assoc i 12 j))))
+
+-- Twelve letters, moved on by a letter: what is in front, and what comes in behind.
+module _ (w : Word) (c : Codes w) (i : ℕ) where
+  pub window-front : window w i / 2 ^ 55 ≡ getD w i 0
+  unfolding value
+  window-front = value-front (from w i) (λ j. c (i + j)) 1 11 ∙ zero-add (getD w (i + 0) 0) ∙ letter-eq w (add-zero i)
+
+module _ (w : Word) (c : Codes w) (i : ℕ) where
+  pub window-next : window w (i + 1) ≡ window w i * 2 ^ 5 % 2 ^ 60 + getD w (i + 12) 0
+  window-next = window-blocks w c i 1 11 refl ∙ ap (λ (x : ℕ). window w i * 2 ^ 5 % 2 ^ 60 + x) (window-front w c (i + 12))
+
+  -- nothing comes in behind the end
+  pub window-last : length w ≤ i + 12 → window w (i + 1) ≡ window w i * 2 ^ 5 % 2 ^ 60
+  window-last h = window-next ∙ ap (λ (x : ℕ). window w i * 2 ^ 5 % 2 ^ 60 + x) (List·getD-eq-default w 0 h) ∙ add-zero (window w i * 2 ^ 5 % 2 ^ 60)
 
 -- Products. The letters of u ++ v are those of u, and those of v behind as many zeros as u has letters, added place by place.
 

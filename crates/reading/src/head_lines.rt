@@ -15,7 +15,7 @@ use package::NamesRead;
 use package::Refusal;
 use text::bytes::find;
 ghost use mathlib.Core.Path.{_≡_};
-ghost use Prim.Native.Nat.{ℕ, _≤_};
+ghost use Prim.Native.Nat.{_≤_};
 ghost use lib.ListN.{length, drop};
 ghost use Rattle.text.specs.Pieces.{lines};
 ghost use Rattle.package.specs.Names.{headNames, termNames};

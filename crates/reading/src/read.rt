@@ -11,7 +11,7 @@ use sumreading::sum_lines::judge_sum_block;
 use termreading::items::mark_items;
 use termreading::term_lines::read_terms;
 ghost use mathlib.Core.Path.{_≡_};
-ghost use Prim.Native.Nat.{ℕ, _+_, _≤_};
+ghost use Prim.Native.Nat.{_+_, _≤_};
 ghost use lib.ListN.{length};
 ghost use Rattle.package.specs.Package.{readPackage};
 ghost use Rattle.package.specs.Held.{seenAll, countAll, WordsInside, gensAll, basisAll, spotAll, lineAll, LineHeld, FirstsHeld};
@@ -21,11 +21,11 @@ ghost use Rattle.package.specs.Held.{seenAll, countAll, WordsInside, gensAll, b
 // the six slices are scratch: nothing is promised of what they hold.
 pub fn read_package(
     s: &[u8],
-    kinds: &mut [u32],
-    items: &mut [u32],
+    kinds: &mut [u8],
+    items: &mut [u8],
     coefs: &mut [u32],
-    starts: &mut [usize],
-    lens: &mut [usize],
+    starts: &mut [u32],
+    lens: &mut [u8],
     firsts: &mut [usize],
 ) -> Reading
     requires { ⌜ (length (now kinds) ≡ 1024) × (length (now items) ≡ 1024) × (length (now coefs) ≡ 1024) × (length (now starts) ≡ 1024) × (length (now lens) ≡ 1024) × (length (now firsts) ≡ 98) ⌝ }

@@ -2,3 +2,9 @@
 // the working arrays.
 
 pub mod reduce;
+
+// Refused with number and place, or the terms of the short form and the steps.
+pub enum Reduced {
+    Refused { number: u32, place: usize },
+    Short { terms: usize, steps: u32 },
+}

@@ -1,132 +1,130 @@
 // A formula brought to its short form under a package: refusals 1 to 18, or the short form in the working arrays.
 
+use crate::Reduced;
 use accepting::Accepting;
 use accepting::accept::accept;
 use formulas::formula::read_formula;
+use leads::indexing::index_leads;
 use package::FormulaRead;
-use package::Head;
 use package::Limits;
-use reduceread::Reduced;
-use reduceread::read::reduce_read;
+use packedsteps::Ran;
+use packedsteps::run::run;
+use packedtexts::loading::load;
+use table::Table;
+use table::numbers::letters_in;
+use table::numbers::prime_in;
 ghost use mathlib.Core.Path.{_≡_};
 ghost use Prim.Native.Nat.{_≤_};
 ghost use lib.ListN.{length};
-ghost use Rattle.working.specs.Working.{Room};
-ghost use Rattle.sumlines.specs.Room.{Places};
-ghost use Rattle.accepting.specs.Slices.{PackageAccepted};
-ghost use Rattle.acceptance.specs.Reduction.{reduction};
-ghost use Rattle.reduceread.specs.Slices.{seenReduced, ShortHeld};
+ghost use Rattle.algebra.specs.Steps as steps;
+ghost use Rattle.package.specs.Formula.{readFormula};
+ghost use Rattle.acceptance.specs.Reduction.{formulaLimits, reductionOf, reduction};
+ghost use Rattle.table.specs.Table.{primeIn, lettersIn, fieldIn, orderIn};
+ghost use Rattle.table.specs.Polynomials.{basisIn};
+ghost use Rattle.table.specs.Tabled.{Tabled};
+ghost use Rattle.leads.specs.LeadCodes.{BasisLeads};
+ghost use Rattle.packedterms.specs.Formula.{formula, Room, Working};
+ghost use Rattle.reducing.specs.Reductions.{reducedBy, seenReduced, ShortHeld};
 
-// A formula's bytes under an accepted package: 16, 17 and 18.
+// The formula of n terms that the arrays hold, brought to its short form under the basis of t: 17 and 18.
+pub fn reduce_held(
+    t: &Table,
+    budget: u32,
+    c: &mut [u32; 560],
+    l: &mut [u32; 560],
+    w: &mut [u64; 3360],
+    o: &mut [u16; 560],
+    n: usize,
+) -> Reduced
+    requires { ⌜ Tabled (now t) × BasisLeads (now t) × Working (now t) (now c) (now l) (now w) (now o) n × (n ≤ 512) ⌝ }
+    ensures { λ r. ⌜
+        seenReduced (now (t .entry)) (now (c .exit)) (now (l .exit)) (now (w .exit)) (now (o .exit)) r
+        ≡ reductionOf budget
+        (steps.run 512 (fieldIn (now (t .entry))) (orderIn (now (t .entry))) (basisIn (now (t .entry))) budget 0
+        (formula (now (t .entry)) (now (c .entry)) (now (l .entry)) (now (w .entry)) (now (o .entry)) n))
+        ⌝ }
+    ensures { λ r. ⌜ ShortHeld (now (t .entry)) (now (c .exit)) (now (l .exit)) (now (w .exit)) (now (o .exit)) r ⌝ }
+{
+    let mut index = [0u64; 832];
+    index_leads(t, &mut index);
+    let r = run(t, budget, &index, c, l, w, o, n);
+    match r {
+        Ran::Answer { terms, steps } => Reduced::Short {
+            terms: terms,
+            steps: steps,
+        },
+        Ran::Over { step } => Reduced::Refused {
+            number: 17,
+            place: step as usize,
+        },
+        Ran::Spent => Reduced::Refused {
+            number: 18,
+            place: budget as usize,
+        },
+    }
+}
+
+// A formula's bytes under the basis of t: 16, 17 and 18.
 fn reduce_formula(
-    package: &[u8],
-    coefs: &[u32],
-    starts: &[usize],
-    lens: &[usize],
-    firsts: &[usize],
-    h: Head,
-    m: usize,
+    t: &Table,
     text: &[u8],
     budget: u32,
-    c: &mut [u32],
-    l: &mut [u16],
-    w: &mut [u8],
-    o: &mut [u16],
-    buf: &mut [u8],
+    c: &mut [u32; 560],
+    l: &mut [u32; 560],
+    w: &mut [u64; 3360],
+    o: &mut [u16; 560],
 ) -> Reduced
-    requires { ⌜ PackageAccepted (now «package») (now coefs) (now starts) (now lens) (now firsts) h m ⌝ }
-    requires { ⌜ Places (now c) (now l) (now w) (now o) (now buf) ⌝ }
-    ensures { λ r. ⌜ seenReduced (now (c .exit)) (now (l .exit)) (now (w .exit)) (now (o .exit)) r ≡ reduction (now («package» .entry)) (now (text .entry)) budget ⌝ }
-    ensures { λ r. ⌜ ShortHeld (now (c .exit)) (now (l .exit)) (now (w .exit)) (now (o .exit)) r ⌝ }
+    requires { ⌜ Tabled (now t) × BasisLeads (now t) × Room (now c) (now l) (now w) (now o) ⌝ }
+    ensures { λ r. ⌜
+        seenReduced (now (t .entry)) (now (c .exit)) (now (l .exit)) (now (w .exit)) (now (o .exit)) r
+        ≡ reducedBy (now (t .entry)) budget
+        (readFormula (primeIn (now (t .entry))) (lettersIn (now (t .entry))) formulaLimits (now (text .entry)))
+        ⌝ }
+    ensures { λ r. ⌜ ShortHeld (now (t .entry)) (now (c .exit)) (now (l .exit)) (now (w .exit)) (now (o .exit)) r ⌝ }
 {
     let mut fc = [0u32; 48];
     let mut fs = [0usize; 48];
     let mut fl = [0usize; 48];
     let limits = Limits { terms: 48, len: 24 };
-    let r = read_formula(text, h.p, h.letters, limits, &mut fc, &mut fs, &mut fl);
+    let p = prime_in(t);
+    let letters = letters_in(t);
+    let r = read_formula(text, p, letters, limits, &mut fc, &mut fs, &mut fl);
     match r {
         FormulaRead::Refused(line) => Reduced::Refused {
             number: 16,
             place: line,
         },
-        FormulaRead::Formula(n) => reduce_read(
-            package,
-            coefs,
-            starts,
-            lens,
-            firsts,
-            h,
-            m,
-            text,
-            &fc[0..n],
-            &fs[0..n],
-            &fl[0..n],
-            budget,
-            c,
-            l,
-            w,
-            o,
-            buf,
-        ),
+        FormulaRead::Formula(n) => {
+            let m = load(t, &fc[0..n], &fs[0..n], &fl[0..n], text, c, l, w, o);
+            reduce_held(t, budget, c, l, w, o, m)
+        }
     }
 }
 
-// A formula's bytes under a package's bytes: 1 to 18, or the short form, which the four slices then hold.
+// A formula's bytes under a package's bytes: 1 to 18, or the short form, which the arrays then hold; t is the package's table.
 pub fn reduce(
     package: &[u8],
     text: &[u8],
     budget: u32,
-    c: &mut [u32],
-    l: &mut [u16],
-    w: &mut [u8],
-    o: &mut [u16],
+    t: &mut Table,
+    c: &mut [u32; 560],
+    l: &mut [u32; 560],
+    w: &mut [u64; 3360],
+    o: &mut [u16; 560],
 ) -> Reduced
-    requires { ⌜ Room (now c) (now l) (now w) (length (now o)) ⌝ }
-    requires { ⌜ (560 ≤ length (now o)) × (length (now o) ≤ 65536) ⌝ }
-    ensures { λ r. ⌜ seenReduced (now (c .exit)) (now (l .exit)) (now (w .exit)) (now (o .exit)) r ≡ reduction (now («package» .entry)) (now (text .entry)) budget ⌝ }
-    ensures { λ r. ⌜ ShortHeld (now (c .exit)) (now (l .exit)) (now (w .exit)) (now (o .exit)) r ⌝ }
+    requires { ⌜ (length (now t) ≡ 3424) × Room (now c) (now l) (now w) (now o) ⌝ }
+    ensures { λ r. ⌜
+        seenReduced (now (t .exit)) (now (c .exit)) (now (l .exit)) (now (w .exit)) (now (o .exit)) r
+        ≡ reduction (now («package» .entry)) (now (text .entry)) budget
+        ⌝ }
+    ensures { λ r. ⌜ ShortHeld (now (t .exit)) (now (c .exit)) (now (l .exit)) (now (w .exit)) (now (o .exit)) r ⌝ }
 {
-    let mut coefs = [0u32; 1024];
-    let mut starts = [0usize; 1024];
-    let mut lens = [0usize; 1024];
-    let mut firsts = [0usize; 98];
-    let mut buf = [0u8; 72];
-    let r = accept(
-        package,
-        &mut coefs,
-        &mut starts,
-        &mut lens,
-        &mut firsts,
-        c,
-        l,
-        w,
-        o,
-        &mut buf,
-    );
+    let r = accept(package, t, c, l, w, o);
     match r {
         Accepting::Turned { number, place } => Reduced::Refused {
             number: number,
             place: place,
         },
-        Accepting::Taken {
-            head,
-            terms,
-            overlaps,
-        } => reduce_formula(
-            package,
-            &coefs,
-            &starts,
-            &lens,
-            &firsts,
-            head,
-            terms,
-            text,
-            budget,
-            c,
-            l,
-            w,
-            o,
-            &mut buf,
-        ),
+        Accepting::Taken { overlaps } => reduce_formula(t, text, budget, c, l, w, o),
     }
 }

@@ -13,9 +13,9 @@ use Rattle.package.specs.Names.{sumO}
 use Rattle.package.specs.Sums.{SumLine, sumsOf}
 use Rattle.acceptance.specs.Check.{Verdict, refusal, fine, itemsJudged}
 use Rattle.sumlines.specs.declared.SumAt.{SumAt}
-use Rattle.sumlines.specs.Told.{told}
+use Rattle.basis.specs.Told.{told}
 use Rattle.sumlines.specs.Lines.{sumsAt, heldLine, heldFrom, NumberedFrom, aboveCount, Counted, uncounted, counted, Inside}
-use Rattle.sumlines.proofs.ToldNumbers.{told-refused, told-fine}
+use Rattle.basis.proofs.ToldNumbers.{told-refused, told-fine}
 
 pub above-not : (count k i : ℕ) → k ≢ sumO → false ≡ aboveCount count k i
 unfolding aboveCount

@@ -1,8 +1,3 @@
--- The laws that this crate's functions are proved by, and those that other crates cite: what a number tells, the next line, room that is kept.
-pub mod ToldNumbers
-pub mod LeadingHeads
-pub mod HeldWords
+-- The laws that this crate's functions are proved by, and those that other crates cite: the next line.
 pub mod LineReading
 pub mod AboveCount
-pub mod Targets
-pub mod Sizes

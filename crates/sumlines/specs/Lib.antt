@@ -1,4 +1,1 @@
-pub mod Told
-pub mod Heads
 pub mod Lines
-pub mod Room

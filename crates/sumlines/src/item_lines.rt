@@ -8,7 +8,7 @@ ghost use lib.ListN.{length};
 ghost use Rattle.acceptance.specs.Check.{itemsJudged};
 ghost use Rattle.package.specs.Readable.{SumsInOrder};
 ghost use Rattle.package.specs.Package.{packageLimits};
-ghost use Rattle.sumlines.specs.Told.{told};
+ghost use Rattle.basis.specs.Told.{told};
 ghost use Rattle.sumlines.specs.Lines.{sumsAt, aboveCount, Counted};
 
 // Whether a line is an O line whose item is above the count.

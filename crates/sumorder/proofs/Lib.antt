@@ -1,6 +1,5 @@
--- What other crates cite: sum lines in order, the next line of an item, the next kind, the sides of each kind, and the check's row from some kind of sums on.
+-- What other crates cite: sum lines in order, the next line of an item, the next kind, and the check's row from some kind of sums on.
 pub mod LineOrder
 pub mod NextLine
 pub mod KindOrder
-pub mod PackageSides
 pub mod Row

@@ -6,12 +6,9 @@ use Prim.Native.Nat.{ℕ, suc, _+_, _≤_, _<_}
 use native.Mathlib.Numerals.{add-one}
 use native.Mathlib.Omega.{arith}
 use lib.ListN.{length}
-use Rattle.algebra.specs.Poly.{Poly}
-use Rattle.working.specs.Working.{termAt, formula}
-use Rattle.working.proofs.Terms.{terms-length}
 use Rattle.package.specs.declared.Head.{Head}
 use Rattle.package.specs.Package.{packageLimits}
-use Rattle.package.specs.Sums.{SumLine, ofs}
+use Rattle.package.specs.Sums.{ofs}
 use Rattle.package.specs.Readable.{SumsInOrder}
 use Rattle.acceptance.specs.Content.{sumOf}
 use Rattle.sumlines.specs.declared.SumAt.{SumAt}
@@ -83,10 +80,3 @@ module _ (h : Head) (kind i : ℕ) (bytes : List ℕ) (at line : ℕ) (s : SumAt
 
       pub next-item : NextLine h kind (i + 1) bytes at line s
       next-item = record { reached = item-reached; inside = d .inside; held = d .held }
-
--- a formula of no term is nothing, and one of some is not
-pub none-left : {f : Poly} (c l w o : List ℕ) (n : ℕ) → f ≡ formula c l w o n → n ≤ 0 → length f ≤ 0
-none-left c l w o n e h = rw (e, terms-length (termAt c l w o) 0 n) h
-
-pub some-left : {f : Poly} (c l w o : List ℕ) (n : ℕ) → f ≡ formula c l w o n → 0 < n → 0 < length f
-some-left c l w o n e h = rw (e, terms-length (termAt c l w o) 0 n) h

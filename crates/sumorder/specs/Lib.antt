@@ -1,3 +1,2 @@
-pub mod Slices
 pub mod Reached
 pub mod Row

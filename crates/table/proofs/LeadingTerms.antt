@@ -5,16 +5,15 @@ use mathlib.Core.List.{List, []}
 use Prim.Native.Nat.{ℕ, zero, suc, _+_, _-_, _%_, _≤_, _<_}
 use native.Mathlib.Decide.{decLt}
 use native.Mathlib.Omega.{arith}
-use lib.ListN.{length, length-map, List·getD-eq-default}
+use lib.ListN.{length, List·getD-eq-default}
 use Rattle.algebra.specs.Poly.{Term, Poly}
 use Rattle.algebra.specs.Ideal.{family}
 use Rattle.algebra.specs.Groebner.{lead}
 use Rattle.working.specs.Working.{terms}
-use Rattle.packedwords.specs.Packed.{unpacked}
-use Rattle.packedwords.proofs.Packing.{unpacked-length}
-use Rattle.table.specs.Table.{gensIn, basisCountIn, itemsIn, termsIn, letterIn, firstIn, sizeIn, blocksIn}
+use Rattle.table.specs.Table.{gensIn, basisCountIn, itemsIn, termsIn, firstIn, sizeIn, blocksIn}
 use Rattle.table.specs.Polynomials.{wordIn, termIn, polynomialIn, basisIn}
 use Rattle.table.specs.Tabled.{Tabled}
+use Rattle.table.proofs.WordSizes.{word-size}
 use Rattle.table.proofs.Families.{polynomials-count, family-basis}
 
 -- the number of a polynomial that is not zero is one of the basis
@@ -56,7 +55,6 @@ lead-term t T (suc k) h =
     let lo = f .0 in
     let end = T .most j (omega arith) (omega arith) in
     let i = firstIn t j in
-    let size = length-map (unpacked (sizeIn t i % 256) (blocksIn t i)) (letterIn t) ∙ unpacked-length (sizeIn t i % 256) (blocksIn t i) in
     record {
       some = n .0;
       most = hi;
@@ -64,5 +62,5 @@ lead-term t T (suc k) h =
       polynomial = e;
       inside = omega arith;
       word = sym (ap lead e ∙ f .1);
-      letters = ap (λ (q : Poly). length (lead q)) e ∙ ap length (f .1) ∙ size;
+      letters = ap (λ (q : Poly). length (lead q)) e ∙ ap length (f .1) ∙ word-size t (sizeIn t i) (blocksIn t i);
     }

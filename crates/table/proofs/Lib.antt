@@ -1,2 +1,3 @@
+pub mod WordSizes
 pub mod Families
 pub mod LeadingTerms

@@ -6,7 +6,7 @@ ghost use mathlib.Core.List.{List};
 ghost use Prim.Native.Nat.{ℕ, _+_, _/_, _≤_, _<_};
 ghost use lib.ListN.{take, drop};
 ghost use Rattle.packedwords.specs.Packed.{letterOf};
-ghost use Rattle.table.specs.Table.{tableSize, primeIn, gensIn, basisCountIn, keyIn, letterIn, weightIn, firstIn, coefIn, sizeIn, blocksIn};
+ghost use Rattle.table.specs.Table.{tableSize, primeIn, lettersIn, gensIn, basisCountIn, keyIn, letterIn, weightIn, firstIn, coefIn, sizeIn, blocksIn};
 ghost use Rattle.table.specs.Tabled.{Tabled};
 
 // The number that means the field.
@@ -15,6 +15,14 @@ pub fn prime_in(t: &Table) -> u32
     ensures { λ r. ⌜ r ≡ primeIn (now (t .entry)) ⌝ }
 {
     t[0] as u32
+}
+
+// How many letters are in use.
+pub fn letters_in(t: &Table) -> u32
+    requires { ⌜ Tabled (now t) ⌝ }
+    ensures { λ r. ⌜ r ≡ lettersIn (now (t .entry)) ⌝ }
+{
+    t[1] as u32
 }
 
 // How many relations there are.

@@ -58,6 +58,7 @@ module _ (s ks is cs os ls fs : List ℕ) (h : Head) (m at n : ℕ) (e : seenAll
       record {
         prime = bounds .most;
         field = readable-field P readable;
+        alphabet = bounds .letters;
         gens = bounds .gens;
         basis = bounds .basis;
         count = few;

@@ -14,7 +14,8 @@ use Rattle.package.specs.Sums.{SumLine, SumForm, noSum, sum, sumForm, withSum, 
 use Rattle.package.proofs.SumTexts.{sum-text}
 use Rattle.sumlines.specs.declared.SumAt.{SumAt}
 use Rattle.sumlines.specs.Lines.{heldLine, heldFrom, firstIs}
-use Rattle.sumorder.proofs.NextLine.{NextLine, lines-are}
+use Rattle.sumorder.proofs.NextLine.{NextLine, lines-are, next-fits}
+use Rattle.tablesums.specs.Lines.{LineWords}
 use Rattle.tablelies.proofs.Letters.{within-letters}
 
 -- Both words are words of letters.
@@ -31,10 +32,23 @@ sums-lettered n (piece l ls) = go (sumForm (fields l)) refl (sums-lettered (suc 
     go noSum e r = r
     go (sum k i c a o b) e r = let t = sum-text (fields l) k i c a o b e in (within-letters a (t .lefts), within-letters b (t .rights)) also r
 
--- The next line, where it is one of the item.
-pub next-letters : (h : Head) (kind i : ℕ) (bytes : List ℕ) (at line : ℕ) (s : SumAt) → NextLine h kind i bytes at line s
-    → firstIs kind i (heldFrom bytes line s) ≡ true
-    → All (Letter 26) (part bytes (s .left) (s .leftlen)) × All (Letter 26) (part bytes (s .right) (s .rightlen))
-next-letters h kind i bytes at line s d q =
-    let all = subst (All BothLettered) (lines-are h kind i bytes at line s d q) (sums-lettered line (lines (drop at bytes))) in
-    all-at all (heldLine bytes line s) 0 (omega arith)
+module _ (h : Head) (kind i : ℕ) (bytes : List ℕ) (at line : ℕ) (s : SumAt) (d : NextLine h kind i bytes at line s)
+    (q : firstIs kind i (heldFrom bytes line s) ≡ true) where
+  -- The next line, where it is one of the item.
+  pub next-letters : All (Letter 26) (part bytes (s .left) (s .leftlen)) × All (Letter 26) (part bytes (s .right) (s .rightlen))
+  next-letters =
+      let all = subst (All BothLettered) (lines-are h kind i bytes at line s d q) (sums-lettered line (lines (drop at bytes))) in
+      all-at all (heldLine bytes line s) 0 (omega arith)
+
+  -- Its words lie in the bytes as they are packed from there.
+  pub line-words : LineWords bytes s
+  line-words =
+      let fits = next-fits h kind i bytes at line s d q in
+      record {
+        left-short = fits .left-short;
+        right-short = fits .right-short;
+        left-in = fits .left-in;
+        right-in = fits .right-in;
+        left-letters = next-letters .0;
+        right-letters = next-letters .1;
+      }

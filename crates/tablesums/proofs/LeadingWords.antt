@@ -1,24 +1,20 @@
 -- The leading words of the basis as they are laid in the bytes.
 use mathlib.Core.Path.{_≡_, refl, sym, ap, _∙_}
-use mathlib.Core.Logic.{_≢_}
 use mathlib.Core.List.{List, []}
-use Prim.Native.Nat.{ℕ, zero, suc, _+_, _-_, _≤_, _<_}
+use Prim.Native.Nat.{ℕ, suc, _<_}
 use native.Mathlib.Omega.{arith}
 use lib.ListN.{length, getD}
 use Rattle.words.specs.Word.{Word}
 use Rattle.words.specs.Laid.{laidWord}
 use Rattle.words.proofs.LaidWords.{laid-at, laid-word-length}
-use Rattle.algebra.specs.Poly.{Term, Poly}
+use Rattle.algebra.specs.Poly.{Poly}
 use Rattle.algebra.specs.Groebner.{lead}
 use Rattle.algebra.specs.Ideal.{family}
-use Rattle.working.specs.Working.{terms}
 use Rattle.overlaps.proofs.Certification.{lead-of}
 use Rattle.overlapwords.specs.declared.OverlapAt.{OverlapAt}
 use Rattle.overlapwords.specs.OverlapPlaces.{Overlapped}
-use Rattle.table.specs.Polynomials.{wordIn, termIn, basisIn}
-use Rattle.table.specs.Table.{gensIn, basisCountIn, itemsIn, termsIn, firstIn}
-use Rattle.table.specs.Tabled.{Tabled}
-use Rattle.table.proofs.Families.{family-basis}
+use Rattle.table.specs.Polynomials.{basisIn}
+use Rattle.table.specs.Table.{basisCountIn}
 use Rattle.tablesums.specs.Leading.{leadIn, Leads, HeadsIn}
 
 no-letters : length (lead []) ≡ 0

@@ -20,7 +20,7 @@ use Rattle.tablesums.specs.Lines.{lineHeld}
 use Rattle.tablesums.specs.ShortWords.{ShortWord}
 
 module _ (t : List ℕ) (f : Poly) (x : ℕ) (z : Sizes) (left right : List ℕ) where
-  -- what `take_line` leaves, where the polynomial is that of an item
+  -- what `take_item` leaves, where the polynomial is that of an item
   abbrev pub without : ℕ → Poly
   without item =
       plus (fieldIn t) (orderIn t) f

@@ -1,5 +1,5 @@
-// Sum lines and overlaps on a package's table: their words packed, a line taken away from the working formula, the overlap word, the difference that
-// a sum of an overlap starts with, and the test of refusal 14.
+// Sum lines and overlaps on a package's table: their words packed, the overlap word, the difference that a sum of an overlap starts with, and the
+// test of refusal 14.
 
 pub mod factors;
 pub mod lines;

@@ -1,13 +1,11 @@
 // The difference of an overlap, with which its sum starts.
 
 use crate::Sizes;
-use field::arithmetic::neg;
-use itemadding::adding::add_item;
 use itemadding::placing::place_item;
+use itemadding::taking::take_item;
 use overlapwords::OverlapAt;
 use table::Table;
 use table::numbers::gens_in;
-use table::numbers::prime_in;
 ghost use mathlib.Core.Path.{_≡_};
 ghost use Prim.Native.Nat.{_≤_, _<_};
 ghost use lib.ListN.{length};
@@ -65,13 +63,13 @@ pub fn start_difference(
         o,
         buf,
     );
-    let x = neg(prime_in(t), 1);
-    add_item(
+    take_item(
         t,
-        x,
+        1,
         left,
         sizes.left,
         base + f.second,
+        0,
         &none,
         0,
         c,

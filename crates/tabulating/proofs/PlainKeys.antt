@@ -4,20 +4,20 @@ use mathlib.Core.List.{List, [], _∷_, map}
 use Prim.Native.Nat.{ℕ, suc, _+_, _-_, _/_, _%_, _<_}
 use native.Mathlib.Decide.{decLt}
 use native.Mathlib.Omega.{arith}
-use lib.ListN.{length, getD, take, length-map}
+use lib.ListN.{length, getD, take}
 use lib.Seq.{length-take-le}
 use Rattle.words.specs.Word.{Word, Letter}
 use Rattle.words.specs.Order.{byNumber, byLetters, wordOrder}
-use Rattle.words.specs.Weighted.{weight}
 use Rattle.words.proofs.Lexicographic.{number-less, number-greater, number-same}
 use Rattle.words.proofs.WordOrder.{word-order-admissible}
 use Rattle.packedwords.specs.Codes.{itself, code, coded}
 use Rattle.packedwords.specs.Packed.{Codes, unpacked, Packs}
-use Rattle.packedwords.proofs.Packing.{unpacked-codes, unpacked-length}
+use Rattle.packedwords.proofs.Packing.{unpacked-codes}
 use Rattle.packedwords.proofs.Blocks.{packs-narrow}
 use Rattle.packedwords.proofs.Texts.{place-order}
-use Rattle.table.specs.Table.{orderIn, codeIn, letterIn, weightIn}
+use Rattle.table.specs.Table.{orderIn, codeIn, letterIn}
 use Rattle.table.specs.Words.{wordOf, Held, blockCount, Suits, Keyed, Keys}
+use Rattle.table.proofs.WordSizes.{word-size, held-weight}
 use Rattle.tabulating.specs.Filled.{Filled}
 use Rattle.tabulating.specs.Plain.{Plain}
 
@@ -62,15 +62,6 @@ module _ (t : List ℕ) (p : Plain t) where
     light = λ c h. let e = p .weights c h in omega arith;
   }
 
-  -- Words weigh what they have letters.
-  codes-weigh : (w : Word) → Codes w → weight (weightIn t) w ≡ length w
-  unfolding weight
-  codes-weigh [] c = refl
-  codes-weigh (a ∷ w) c = let e = p .weights a (c 0) in let rest = codes-weigh w (λ i. c (suc i)) in omega arith
-
-  held-weight : (z : ℕ) (bs : List ℕ) → Held t z bs → z / 256 ≡ z % 256
-  held-weight z bs h = h .weighed ∙ codes-weigh (unpacked (z % 256) bs) (unpacked-codes (z % 256) bs) ∙ unpacked-length (z % 256) bs
-
   letters-coded : (w : Word) → Codes w → map (letterIn t) w ≡ coded w
   unfolding code
   letters-coded [] c = refl
@@ -78,9 +69,6 @@ module _ (t : List ℕ) (p : Plain t) where
 
   word-coded : (z : ℕ) (bs : List ℕ) → wordOf t z bs ≡ coded (unpacked (z % 256) bs)
   word-coded z bs = letters-coded (unpacked (z % 256) bs) (unpacked-codes (z % 256) bs)
-
-  word-size : (z : ℕ) (bs : List ℕ) → length (wordOf t z bs) ≡ z % 256
-  word-size z bs = length-map (unpacked (z % 256) bs) (letterIn t) ∙ unpacked-length (z % 256) bs
 
   module _ (y z : ℕ) (u v : List ℕ) (six : length u ≡ 6) (six′ : length v ≡ 6) (h : Held t y u) (k : Held t z v) where
     -- words of n letters each: the blocks that these take decide
@@ -106,16 +94,16 @@ module _ (t : List ℕ) (p : Plain t) where
         go : Dec (y % 256 < z % 256) → Dec (z % 256 < y % 256) → orderIn t (wordOf t y u) (wordOf t z v)
             ≡ byNumber (y / 256) (z / 256) (byLetters itself (take (blockCount y) u) (take (blockCount y) v))
         go (yes l) _ =
-            let letters : length (wordOf t y u) < length (wordOf t z v) = omega (arith, word-size y u, word-size z v) in
-            let weights : y / 256 < z / 256 = omega (arith, held-weight y u h, held-weight z v k) in
+            let letters : length (wordOf t y u) < length (wordOf t z v) = omega (arith, word-size t y u, word-size t z v) in
+            let weights : y / 256 < z / 256 = omega (arith, held-weight t plain-keys y u h, held-weight t plain-keys z v k) in
             number-less _ letters ∙ sym (number-less _ weights)
         go (no _) (yes l) =
-            let letters : length (wordOf t z v) < length (wordOf t y u) = omega (arith, word-size y u, word-size z v) in
-            let weights : z / 256 < y / 256 = omega (arith, held-weight y u h, held-weight z v k) in
+            let letters : length (wordOf t z v) < length (wordOf t y u) = omega (arith, word-size t y u, word-size t z v) in
+            let weights : z / 256 < y / 256 = omega (arith, held-weight t plain-keys y u h, held-weight t plain-keys z v k) in
             number-greater _ letters ∙ sym (number-greater _ weights)
         go (no l) (no m) =
             let same : z % 256 ≡ y % 256 = omega arith in
-            let weights : y / 256 ≡ z / 256 = omega (arith, held-weight y u h, held-weight z v k) in
+            let weights : y / 256 ≡ z / 256 = omega (arith, held-weight t plain-keys y u h, held-weight t plain-keys z v k) in
             level (y % 256) (blockCount y) refl same refl ∙ sym (number-same _ weights)
 
   pub plain-suits : Suits t

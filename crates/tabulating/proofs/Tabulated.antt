@@ -14,7 +14,7 @@ use Rattle.package.specs.declared.Head.{Head}
 use Rattle.working.specs.Working.{terms}
 use Rattle.working.specs.Polynomial.{polyTerm}
 use Rattle.working.specs.Family.{between, polyBetween, familyAt, Runs}
-use Rattle.working.proofs.Numbered.{between-length, between-at}
+use Rattle.working.proofs.Between.{between-length, between-at}
 use Rattle.table.specs.Table.{primeIn, lettersIn, gensIn, basisCountIn, termsIn, itemsIn, keyIn, firstIn}
 use Rattle.table.specs.Polynomials.{termIn, polynomialsIn, relationsIn, basisIn}
 use Rattle.table.specs.Tabled.{Tabled}
@@ -25,7 +25,7 @@ use Rattle.tabulating.specs.Lies.{WordsLie, Lies}
 use Rattle.tabulating.proofs.KeptKeys.{key-kept}
 use Rattle.tabulating.proofs.PlainKeys.{plain-kept, plain-keys, plain-suits}
 use Rattle.tabulating.proofs.RowEntries.{row-entry}
-use Rattle.tabulating.proofs.TermRows.{RowIs, coef-is, letters-are, held-is, term-is}
+use Rattle.tabulating.proofs.TermRows.{RowIs, coef-is, letters-are, held-is, coded-is, term-is}
 
 -- What the sections before the rows hold; and all sections.
 pub record Begun (h : Head) (m : ℕ) (firsts t : List ℕ) : Type 0 where
@@ -181,6 +181,7 @@ module _ {h : Head} {coefs starts lens bytes firsts : List ℕ} {m : ℕ} {t : L
       record {
         size = s .begun .size;
         prime = let k = l .prime in omega (arith, prime-is);
+        letters = rw letter-count-is (l .alphabet);
         gens = rw gens-is (l .gens);
         basis = rw basis-count-is (l .basis);
         terms = rw terms-are (l .count);
@@ -191,6 +192,7 @@ module _ {h : Head} {coefs starts lens bytes firsts : List ℕ} {m : ℕ} {t : L
         small = λ i q. rw (coef-is t keys i _ _ (row-is i (below i q)), prime-is) (l .terms .small i (below i q));
         short = λ i q. rw (letters-are t keys i _ _ (row-is i (below i q))) (row-is i (below i q) .short);
         held = λ i q. held-is t keys i _ _ (row-is i (below i q));
+        coded = λ i q. coded-is t keys i _ _ (row-is i (below i q));
         rising = λ j o k. rw (start-is j (omega arith), start-is (suc j) (omega arith))
             (item (λ (j : ℕ). getD firsts j 0 ≤ getD firsts (suc j) 0) (rising-at (l .relation-runs)) (rising-at (l .basis-runs)) j o k);
         most = λ j o k. rw (start-is (suc j) (omega arith), terms-are)

@@ -9,13 +9,13 @@ use lib.Seq.{ext-getD}
 use Rattle.lists.specs.All.{All}
 use Rattle.lists.proofs.Parts.{part-length}
 use Rattle.words.specs.Word.{Word, Letter}
-use Rattle.packedwords.specs.Packed.{window, packed}
+use Rattle.packedwords.specs.Packed.{Nonzero, window, packed, unpacked}
 use Rattle.packedwords.proofs.Packing.{packed-length, packed-at}
 use Rattle.packing.proofs.Entries.{part-at}
 use Rattle.table.specs.Table.{keyIn, coefIn, sizeIn, blocksIn}
 use Rattle.table.specs.Words.{Held, Keys}
 use Rattle.table.specs.Polynomials.{wordIn, termIn}
-use Rattle.wordpacking.proofs.KeyedWords.{codesIn, sizeOf, size-low, size-letters, packed-word, packed-held}
+use Rattle.wordpacking.proofs.KeyedWords.{codesIn, sizeOf, size-low, size-letters, size-codes, codes-nonzero, packed-word, packed-held}
 use Rattle.tabulating.specs.Rows.{rowOf}
 
 -- Row i of t is that of coefficient c and word w.
@@ -60,6 +60,11 @@ module _ (t : List ℕ) (keys : Keys t) (i c : ℕ) (w : Word) (r : RowIs t i c 
 
   pub held-is : Held t (sizeIn t i) (blocksIn t i)
   held-is = let h = r .short in rw (size-is, blocks-are) (packed-held t keys w (r .letters) few 2 (omega arith))
+
+  pub coded-is : Nonzero (unpacked (sizeIn t i % 256) (blocksIn t i))
+  coded-is =
+      let h = r .short in
+      rw (size-is, blocks-are, size-codes t keys w (r .letters) few 2 (omega arith)) (codes-nonzero t keys w (r .letters))
 
   word-is : wordIn t i ≡ w
   word-is = let h = r .short in rw (size-is, blocks-are) (packed-word t keys w (r .letters) few 2 (omega arith))

@@ -28,6 +28,7 @@ pub record WordsLie (starts lens bytes : List ℕ) (m : ℕ) : Type 0 where
 pub record Lies (h : Head) (coefs starts lens bytes firsts : List ℕ) (m : ℕ) : Type 0 where
   pub prime : h .p ≤ 65521
   pub field : Field (fieldOf (h .p))
+  pub alphabet : h .letters ≤ 26
   pub gens : h .gens ≤ 32
   pub basis : h .basis ≤ 64
   pub count : m ≤ 1024

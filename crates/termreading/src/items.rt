@@ -3,23 +3,23 @@
 use package::Head;
 use package::TERM_G;
 ghost use mathlib.Core.Path.{_≡_};
-ghost use Prim.Native.Nat.{ℕ, _+_, _<_, _≤_};
-ghost use lib.ListN.{length, getD, drop};
+ghost use Prim.Native.Nat.{_+_, _<_, _≤_};
+ghost use lib.ListN.{length, drop};
 ghost use Rattle.package.specs.Items.{slot, firstOf};
 ghost use Rattle.package.specs.Held.{slotsHeld, StartsMarked};
 
 // The number of an item among all items, counted from 1.
-fn slot_of(h: Head, kind: u32, item: u32) -> usize
+fn slot_of(h: Head, kind: u8, item: u8) -> usize
     ensures { λ r. ⌜ r ≡ slot h kind item ⌝ }
 {
-    if kind == TERM_G {
+    if kind as u32 == TERM_G {
         return item as usize;
     }
     h.gens as usize + item as usize
 }
 
 // The first term from the place at on that belongs to item number j or a later one, or n.
-fn skip_terms(h: Head, kinds: &[u32], items: &[u32], n: usize, at: usize, j: usize) -> usize
+fn skip_terms(h: Head, kinds: &[u8], items: &[u8], n: usize, at: usize, j: usize) -> usize
     requires { ⌜ (at ≤ n) × (n ≤ length (now kinds)) × (n ≤ length (now items)) ⌝ }
     ensures { λ r. ⌜ r ≡ at + firstOf j (drop at (slotsHeld h (now (kinds .entry)) (now (items .entry)) n)) ⌝ }
     ensures { λ r. ⌜ r ≤ n ⌝ }
@@ -35,7 +35,7 @@ fn skip_terms(h: Head, kinds: &[u32], items: &[u32], n: usize, at: usize, j: usi
 }
 
 // For each item number j up to the one after the last: how many terms stand before the first of item j.
-pub fn mark_items(h: Head, kinds: &[u32], items: &[u32], n: usize, firsts: &mut [usize])
+pub fn mark_items(h: Head, kinds: &[u8], items: &[u8], n: usize, firsts: &mut [usize])
     requires { ⌜ (h .gens ≤ 32) × (h .basis ≤ 64) ⌝ }
     requires { ⌜ (n ≤ length (now kinds)) × (n ≤ length (now items)) × (length (now firsts) ≡ 98) ⌝ }
     ensures { λ _. ⌜ StartsMarked h (now (kinds .entry)) (now (items .entry)) n (now (firsts .exit)) ⌝ }

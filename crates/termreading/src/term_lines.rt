@@ -21,8 +21,8 @@ use text::bytes::is_within;
 use wordorder::order::is_below;
 use wordreading::word::last_word;
 ghost use mathlib.Core.Path.{_≡_};
-ghost use mathlib.Core.List.{List, []};
-ghost use Prim.Native.Nat.{ℕ, _+_, _-_, _<_, _≤_};
+ghost use mathlib.Core.List.{[]};
+ghost use Prim.Native.Nat.{_+_, _-_, _<_, _≤_};
 ghost use lib.ListN.{length, drop, set};
 ghost use Rattle.text.specs.Pieces.{lines, fields, part};
 ghost use Rattle.package.specs.Terms.{term, termForm, itemsOf, termFits, start, follows, counted, judged, judgeTerm, block2};
@@ -192,13 +192,13 @@ pub fn judge_term(
     }
 }
 
-// Stores a term at the place n of the five slices.
+// Stores a term at the place n of the five slices. Its numbers fit their slices.
 fn store_term(
-    kinds: &mut [u32],
-    items: &mut [u32],
+    kinds: &mut [u8],
+    items: &mut [u8],
     coefs: &mut [u32],
-    starts: &mut [usize],
-    lens: &mut [usize],
+    starts: &mut [u32],
+    lens: &mut [u8],
     n: usize,
     kind: u32,
     item: u32,
@@ -207,17 +207,18 @@ fn store_term(
     len: usize,
 )
     requires { ⌜ (n < length (now kinds)) × (n < length (now items)) × (n < length (now coefs)) × (n < length (now starts)) × (n < length (now lens)) ⌝ }
+    requires { ⌜ (kind ≤ 255) × (item ≤ 255) × (start ≤ 65536) × (len ≤ 255) ⌝ }
     ensures { λ _. ⌜ now (kinds .exit) ≡ set (now (kinds .entry)) n kind ⌝ }
     ensures { λ _. ⌜ now (items .exit) ≡ set (now (items .entry)) n item ⌝ }
     ensures { λ _. ⌜ now (coefs .exit) ≡ set (now (coefs .entry)) n coef ⌝ }
     ensures { λ _. ⌜ now (starts .exit) ≡ set (now (starts .entry)) n start ⌝ }
     ensures { λ _. ⌜ now (lens .exit) ≡ set (now (lens .entry)) n len ⌝ }
 {
-    kinds[n] = kind;
-    items[n] = item;
+    kinds[n] = kind as u8;
+    items[n] = item as u8;
     coefs[n] = coef;
-    starts[n] = start;
-    lens[n] = len;
+    starts[n] = start as u32;
+    lens[n] = len as u8;
 }
 
 // Block 2, from the line that starts at the place from on, which has the number first. The five slices hold its terms.
@@ -228,13 +229,14 @@ pub fn read_terms(
     s: &[u8],
     from: usize,
     first: usize,
-    kinds: &mut [u32],
-    items: &mut [u32],
+    kinds: &mut [u8],
+    items: &mut [u8],
     coefs: &mut [u32],
-    starts: &mut [usize],
-    lens: &mut [usize],
+    starts: &mut [u32],
+    lens: &mut [u8],
 ) -> TermsEnded
-    requires { ⌜ (h .letters ≤ 26) × (m .terms ≤ 65536) ⌝ }
+    requires { ⌜ (h .letters ≤ 26) × (h .gens ≤ 32) × (h .basis ≤ 64) ⌝ }
+    requires { ⌜ (m .terms ≤ 65536) × (m .len ≤ 255) ⌝ }
     requires { ⌜ (from ≤ length (now s)) × (first ≤ from + 4) × (length (now s) ≤ 65536) ⌝ }
     requires { ⌜ (length (now kinds) ≡ 1024) × (length (now items) ≡ 1024) × (length (now coefs) ≡ 1024) × (length (now starts) ≡ 1024) × (length (now lens) ≡ 1024) ⌝ }
     ensures { λ r. ⌜ seenTerms h (now (s .entry)) (now (kinds .exit)) (now (items .exit)) (now (coefs .exit)) (now (starts .exit)) (now (lens .exit)) r ≡ block2 h m start [] first (lines (drop from (now (s .entry)))) ⌝ }

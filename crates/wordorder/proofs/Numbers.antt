@@ -1,12 +1,11 @@
 -- Letters as a number, the first as the highest byte: of two numbers of letters the greater is that with the later letter at the first difference.
 use mathlib.Core.Path.{_≡_, refl, sym, _∙_, ap}
 use mathlib.Core.Logic.{_⊎_, inl, inr}
-use Prim.Native.Nat.{ℕ, zero, suc, _+_, _*_, _/_, _^_, _≤_, _<_}
-use native.Mathlib.Nat.{add-zero, add-suc, div-one}
+use Prim.Native.Nat.{ℕ, zero, suc, _+_, _*_, _≤_, _<_}
+use native.Mathlib.Nat.{add-zero}
 use native.Mathlib.Decide.{decLt}
 use native.Mathlib.Omega.{arith}
 use lib.ListN.{length, getD, drop}
-use lib.Pow.{shr-shr}
 use Rattle.words.specs.declared.Comparison.{Comparison}
 use Rattle.words.specs.Word.{Word}
 use Rattle.words.specs.Order.{letterRank, byNumber, byLetters}
@@ -57,19 +56,6 @@ letter-number u v i h k p q = go (less-or-same (getD v i 0) (getD u i 0))
     go (inl l) = number-less _ l ∙ sym (letter-later u v i h k p q l)
     go (inr (inl l)) = number-greater _ l ∙ sym (letter-earlier u v i h k p q l)
     go (inr (inr e)) = number-same _ e ∙ letter-equal u v i h k (sym e)
-
-module _ (f : ℕ → ℕ) (p : (i : ℕ) → f i < 256) where
-  -- a letter is shifted out
-  shift-letter : (r : ℕ) → value f (suc r) / 2 ^ 8 ≡ value f r
-  unfolding value
-  shift-letter r = let b = p r in omega arith
-
-  -- the last j letters are shifted out
-  pub shift-letters : (r j : ℕ) → value f (r + j) / 2 ^ (8 * j) ≡ value f r
-  shift-letters r zero = rw (add-zero r) (div-one (value f r))
-  shift-letters r (suc j) =
-      let e : 8 * suc j ≡ 8 + 8 * j = omega arith in
-      rw (add-suc r j, e) (sym (shr-shr (value f (suc (r + j))) 8 (8 * j)) ∙ ap (λ (x : ℕ). x / 2 ^ (8 * j)) (shift-letter (r + j)) ∙ shift-letters r j)
 
 -- The letters of u and v from place i on, as f and g. The first r of them as numbers, and what follows them, say what all of them say.
 pub letters-number : (u v : Word) (i : ℕ) (f g : ℕ → ℕ) → ((j : ℕ) → f j < 256) → ((j : ℕ) → g j < 256)

@@ -4,8 +4,8 @@
 use lists::bytes::wide_u64;
 use words::Comparison;
 ghost use mathlib.Core.Path.{_≡_};
-ghost use Prim.Native.Nat.{_+_, _-_, _*_, _/_, _^_, _≤_, _<_};
-ghost use lib.ListN.{length, take, drop};
+ghost use Prim.Native.Nat.{_+_, _-_, _*_, _≤_, _<_};
+ghost use lib.ListN.{length};
 ghost use Rattle.words.specs.Order.{byNumber, wordOrder};
 ghost use Rattle.words.specs.Below.{isBelow};
 ghost use Rattle.wordorder.specs.Block.{blockAt};
@@ -27,47 +27,15 @@ fn block(u: &[u8], i: usize) -> u64
         + ((e * 16777216 + f * 65536) + (g * 256 + h))
 }
 
-// How many low bits of a block do not count where its first r letters do.
-fn beyond(r: usize) -> usize
-    requires { ⌜ 1 ≤ r ⌝ }
-    ensures { λ m. ⌜ (m ≡ 64 - 8 * r) × (m < 64) ⌝ }
+// What blocks that differ say: the greater number has the later letter, so it is the lower word's.
+fn decide(x: u64, y: u64) -> Comparison
+    ensures { λ c. ⌜ c ≡ byNumber y x Comparison.Equal ⌝ }
 {
-    if r < 8 {
-        return 64 - 8 * r;
-    }
-    0
-}
-
-// What blocks say of which the first r letters count: the greater number has the later letter, so it is the lower word's.
-fn decide(x: u64, y: u64, r: usize) -> Comparison
-    requires { ⌜ 1 ≤ r ⌝ }
-    ensures { λ c. ⌜ c ≡ byNumber (y / 2 ^ (64 - 8 * r)) (x / 2 ^ (64 - 8 * r)) Comparison.Equal ⌝ }
-{
-    let m = beyond(r);
-    let a = x >> m;
-    let b = y >> m;
-    if a < b {
+    if x < y {
         return Comparison::Above;
     }
-    if b < a {
+    if y < x {
         return Comparison::Below;
-    }
-    Comparison::Equal
-}
-
-// How the first n letters of u stand to the n letters of v from `at` on. Both have room for 72 letters, so that whole blocks can be read.
-pub fn compare_level(u: &[u8], v: &[u8], at: usize, n: usize) -> Comparison
-    requires { ⌜ (n ≤ 72) × (72 ≤ length (now u)) × (at + 72 ≤ length (now v)) ⌝ }
-    ensures { λ r. ⌜ r ≡ wordOrder (take n (now (u .entry))) (take n (drop at (now (v .entry)))) ⌝ }
-{
-    let mut k = 0;
-    while k < n {
-        let x = block(u, k);
-        let y = block(v, at + k);
-        if x != y {
-            return decide(x, y, n - k);
-        }
-        k += 8;
     }
     Comparison::Equal
 }
@@ -87,7 +55,7 @@ pub fn compare(u: &[u8], v: &[u8]) -> Comparison
         let x = block(u, i);
         let y = block(v, i);
         if x != y {
-            return decide(x, y, 8);
+            return decide(x, y);
         }
         i += 8;
     }

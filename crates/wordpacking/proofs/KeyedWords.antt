@@ -10,7 +10,7 @@ use Rattle.lists.proofs.Every.{all-map}
 use Rattle.lists.proofs.Parts.{part-length}
 use Rattle.words.specs.Word.{Word, Letter}
 use Rattle.words.specs.Weighted.{weight}
-use Rattle.packedwords.specs.Packed.{Codes, packed, unpacked}
+use Rattle.packedwords.specs.Packed.{Codes, Nonzero, packed, unpacked}
 use Rattle.packedwords.proofs.Packing.{packed-length, unpacked-packed, packed-packs}
 use Rattle.table.specs.Table.{keyIn, codeIn, keyWeightIn, letterIn, weightIn}
 use Rattle.table.specs.Words.{Keys, Held, Sixfold, wordOf}
@@ -42,6 +42,12 @@ module _ (t : List ℕ) (keys : Keys t) where
   codes-weight [] done = refl
   codes-weight (a ∷ w) (p also ps) = ap₂ _+_ (keys .keyed a p .weighed) (codes-weight w ps)
 
+  -- no letter has the code 0
+  pub codes-nonzero : (w : Word) → All (Letter 26) w → Nonzero (codesIn t w)
+  codes-nonzero [] done i h = absurd (omega arith)
+  codes-nonzero (a ∷ w) (p also ps) zero h = keys .keyed a p .some
+  codes-nonzero (a ∷ w) (p also ps) (suc i) h = codes-nonzero w ps i (omega arith)
+
   letter-light : (a : ℕ) → Letter 26 a → keyWeightIn t a ≤ 65535
   letter-light a p = omega (arith, keys .keyed a p .weighed, keys .light (codeIn t a) (code-low t a))
 
@@ -71,7 +77,7 @@ module _ (t : List ℕ) (keys : Keys t) where
             ap (λ (n : ℕ). unpacked n (packed k (codesIn t w))) (sym code-count)
             ∙ unpacked-packed (codesIn t w) (codes-low t w) k codes-fit
 
-        size-codes : unpacked (sizeOf t w % 256) (packed k (codesIn t w)) ≡ codesIn t w
+        pub size-codes : unpacked (sizeOf t w % 256) (packed k (codesIn t w)) ≡ codesIn t w
         size-codes = ap (λ (n : ℕ). unpacked n (packed k (codesIn t w))) size-letters ∙ codes-back
 
         pub packed-word : wordOf t (sizeOf t w) (packed k (codesIn t w)) ≡ w

@@ -1,13 +1,10 @@
--- What other crates cite: the terms of a formula by number, what follows where the arrays hold one, and what moving entries and storing letters does to them;
--- polynomials by number; that slices keep their lengths; and the search's law.
+-- What other crates cite: terms by number, what moving entries does to them, and a term inserted among them; polynomials by number, and the entries
+-- between two places.
 pub mod Terms
-pub mod Places
 pub mod RotationRight
 pub mod RotationLeft
-pub mod Parts
-pub mod EightLetters
+pub mod Rotations
+pub mod Inserted
 pub mod Falling
-mod Halving
-pub mod Numbered
+pub mod Between
 pub mod Families
-pub mod Sizes

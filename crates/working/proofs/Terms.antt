@@ -47,6 +47,12 @@ module _ (F : ℕ → Term) where
       let d : 0 + k ≡ k = omega arith in
       ap (terms F 0) e ∙ terms-split 0 k (n - k) ∙ rw d
 
+  -- the first n, and the next
+  pub terms-last : (n : ℕ) → terms F 0 (n + 1) ≡ terms F 0 n ++ (F n ∷ [])
+  terms-last n =
+      terms-cut n (n + 1) (omega arith)
+      ∙ ap (λ (f : Poly). terms F 0 n ++ f) (terms-next n (n + 1) (omega arith) ∙ ap (λ (f : Poly). F n ∷ f) (terms-end (n + 1) (n + 1) (omega arith)))
+
   -- term k by its number
   terms-get : (i k j : ℕ) (d : Term) → j < k → getD (terms F i k) j d ≡ F (i + j)
   unfolding terms

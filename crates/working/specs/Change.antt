@@ -1,20 +1,11 @@
--- What one term does to the formula: stored at a place, added onto the term that has its word, or put before a term.
-use mathlib.Core.Path.{_≡_}
-use mathlib.Core.List.{List, _∷_, _++_}
-use Prim.Native.Nat.{ℕ, _+_, _-_, _*_}
-use lib.ListN.{set, take}
-use lib.Seq.{sets}
+-- What one term does to a run of terms: it is added onto the term that has its word, or put before a term.
+use mathlib.Core.List.{_∷_, _++_}
+use Prim.Native.Nat.{ℕ, _+_, _-_}
 use Rattle.field.specs.Field.{Operations}
 use Rattle.words.specs.Word.{Word}
 use Rattle.algebra.specs.Poly.{Term, Poly}
 use Rattle.algebra.specs.Written.{put}
 use Rattle.working.specs.Working.{terms}
-
--- A term was stored at place s: its coefficient is x, and its word the first e of the 72 letters of v.
-pub record Stored (c l w : List ℕ) (s x : ℕ) (v : List ℕ) (e : ℕ) (c' l' w' : List ℕ) : Type 0 where
-  pub coefs : c' ≡ set c s x
-  pub lens : l' ≡ set l s e
-  pub letters : w' ≡ sets w (s * 72) (take 72 v)
 
 -- The term x × v.
 abbrev pub single : ℕ → Word → Term

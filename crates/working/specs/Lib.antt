@@ -2,5 +2,4 @@ pub mod Working
 pub mod Polynomial
 pub mod Family
 pub mod Rotation
-pub mod Sorted
 pub mod Change

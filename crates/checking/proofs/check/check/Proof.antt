@@ -1,84 +1,106 @@
--- `check` judges 8 and 9, and then the sums.
+-- `check` judges the kinds of sums and then the overlaps. The loop's invariant: the row from the next kind on gives the verdict (proofs/KindsJudging).
+use Prim.Native.Nat.{_-_}
+use native.Mathlib.Omega.{arith}
+use Rattle.working.specs.Working.{Arranged}
+use Rattle.packedterms.specs.Formula.{Room}
+use Rattle.checking.proofs.KindsJudging.{KindsDone, kinds-start, kinds-refused, kinds-next, kinds-behind, kinds-end}
 use borrow.Author.Needs.{needs}
-use mathlib.Core.Path.{_≡_, sym, ap, _∙_}
-use Rattle.sumlines.proofs.Sizes.{ready-started}
-use Rattle.sumorder.proofs.Row.{then-refused}
-use Rattle.overlapchecking.proofs.Answers.{answer-refused}
-use Rattle.checking.proofs.Joined.{sound-answer, basis-refused, basis-sound, heads-sound}
 use Rattle.checking.proofs.check.check.Statement.{statement}
 use Rattle.checking.proofs.check.check.Tie as tie
 
-judge-basis-requires : tie.Need-judge-basis-requires
-judge-basis-requires c κs = search needs
+abbrev Inv-loop : tie.InvT-loop
+Inv-loop t heads headlens bytes from first c₀ l₀ w₀ o₀ at₀ line₀ kind₀ c l w o at line kind =
+    Arranged o × Room c l w o × KindsDone t bytes from first at line kind
 
-enum-known-b : tie.Need-enum-known-b
-enum-known-b c = search needs
+abbrev μ-loop : tie.MeasureT-loop
+μ-loop t heads headlens bytes from first c₀ l₀ w₀ o₀ at₀ line₀ kind₀ c l w o at line kind = 3 - kind
 
-same-length : tie.Need-same-length
-same-length c = search needs
+-- from a kind's answer, and from that on the overlaps, back to the turn's top, and to the start
+abbrev top : tie.After-judge-sums Inv-loop μ-loop → tie.At-loop Inv-loop μ-loop
+top b = b .before .before .before .before .before .before
 
-same-length-2 : tie.Need-same-length-2
-same-length-2 c = search needs
+abbrev last : tie.After-judge-laps Inv-loop μ-loop → tie.At-loop Inv-loop μ-loop
+last b = b .before .before .before .before .before .before
 
-returns : tie.Need-returns
-returns c = answer-refused _ _ _ _ (then-refused _ _ _ _ (basis-refused _ _ (c .before .before .before .before .before .before .before .judge-basis .ensures .0) _ _ (c .before .b .given .1)))
+abbrev begun : tie.At-loop Inv-loop μ-loop → tie.Start Inv-loop μ-loop
+begun b = b .before .before .before .before .before .before
 
-enum-told : tie.Need-enum-told
-enum-told c = search needs
+start-requires : tie.Need-start-requires Inv-loop μ-loop
+start-requires c κs = search needs
 
-start-requires : tie.Need-start-requires
-start-requires c κs = c .before .before .before .before .before .before .before .before .before .before .before .before .before .before .before .before .before .before .before .before .before .before .before .pre .1 .1 .1 .0 .named
+loop-holds : tie.Need-loop-holds Inv-loop μ-loop
+loop-holds c =
+    let s = c .before .before .before .before .before in
+    let r = s .pre .1 .1 in (
+      c .start .ensures,
+      record { coefs = r .coefs; sizes = r .sizes; blocks = r .blocks; places = search needs },
+      kinds-start _ _ _ _ (s .pre .1 .0),
+    )
 
-judge-package-requires : tie.Need-judge-package-requires
-judge-package-requires c κs =
-    let s = c .before .before .before .before .before .before .before .before .before .before .before .before .before .before .before .before .before .before .before .before .before .before .before .before .before .before .before .before .before .before .before .before .before .before in
-    (s .pre .0, (heads-sound _ _ _ _ _ _ _ _ _ _ (c .before .before .before .before .before .before .before .before .before .before .before .before .before .before .before .before .before .before .judge-basis .ensures .1) (c .before .before .before .before .before .before .before .before .before .before .before .before .enum-told .given .1), (s .pre .1 .0, (ready-started (s .pre .1 .1 .1 .0) (c .before .before .before .before .before .before .before .before .before .before .start .kept .0) (c .before .before .before .before .before .before .before .before .before .before .start .ensures), s .pre .1 .1 .1 .1))))
+judge-sums-requires : tie.Need-judge-sums-requires Inv-loop μ-loop
+judge-sums-requires c κs =
+    let m = c .before .before .before .before .before in
+    let i = m .loop .inv in
+    (begun m .pre .0 .0, (i .2 .reached, (i .0, i .1)))
 
-same-length-3 : tie.Need-same-length-3
-same-length-3 c = search needs
+enum-known-r : tie.Need-enum-known-r Inv-loop μ-loop
+enum-known-r c = search needs
 
-same-length-4 : tie.Need-same-length-4
-same-length-4 c = search needs
+returns : tie.Need-returns Inv-loop μ-loop
+returns c =
+    let b = c .before .before .before in
+    let more = b .before .before .before .before .before .loop-test .taken in
+    let e = b .judge-sums .ensures in
+    (kinds-refused _ _ _ _ _ _ _ (top b .loop .inv .2) more _ (e .0) _ _ _ (c .before .r .given .1), e .1 .1 .1)
 
-same-length-5 : tie.Need-same-length-5
-same-length-5 c = search needs
+enum-known-r-2 : tie.Need-enum-known-r-2 Inv-loop μ-loop
+enum-known-r-2 c = search needs
 
-same-length-6 : tie.Need-same-length-6
-same-length-6 c = search needs
+add-kind : tie.Need-add-kind Inv-loop μ-loop
+add-kind c =
+    let b = c .before .before .before in
+    let l = b .before .before .before .before .before .loop-test .taken in
+    record { fits = omega arith }
 
-same-length-7 : tie.Need-same-length-7
-same-length-7 c = search needs
+loop-less : tie.Need-loop-less Inv-loop μ-loop
+loop-less c =
+    let b = c .before .before .before in
+    let l = b .before .before .before .before .before .loop-test .taken in
+    omega arith
 
-same-length-8 : tie.Need-same-length-8
-same-length-8 c = search needs
+loop-again : tie.Need-loop-again Inv-loop μ-loop
+loop-again c =
+    let b = c .before .before .before in
+    let e = b .judge-sums .ensures in
+    let more = b .before .before .before .before .before .loop-test .taken in
+    (e .1 .1 .0, e .1 .1 .1, kinds-next _ _ _ _ _ _ _ (top b .loop .inv .2) more _ (e .0) _ _ (c .before .r2 .given .1) (e .1 .0))
 
-same-length-9 : tie.Need-same-length-9
-same-length-9 c = search needs
+judge-laps-requires : tie.Need-judge-laps-requires Inv-loop μ-loop
+judge-laps-requires c κs =
+    let m = c .before .before .before .before .before in
+    let i = m .loop .inv in
+    (begun m .pre .0, (kinds-behind _ _ _ _ _ _ _ (i .2) (c .before .before .before .before .loop-test .left), (i .0, i .1)))
 
-same-length-10 : tie.Need-same-length-10
-same-length-10 c = search needs
-
-returns-2 : tie.Need-returns-2
-returns-2 c = sound-answer _ _ _ _ _ _ (c .before .before .before .before .before .before .before .before .before .before .before .before .judge-package .ensures) (basis-sound _ _ (c .before .before .before .before .before .before .before .before .before .before .before .before .before .before .before .before .before .before .before .before .before .before .before .before .before .before .before .before .before .before .before .judge-basis .ensures .0) (c .before .before .before .before .before .before .before .before .before .before .before .before .before .before .before .before .before .before .before .before .before .before .before .before .before .enum-told .given .1))
+returns-2 : tie.Need-returns-2 Inv-loop μ-loop
+returns-2 c =
+    let more = c .before .before .before .before .before .loop-test .left in
+    let e = c .judge-laps .ensures in
+    (kinds-end _ _ _ _ _ _ _ (last c .loop .inv .2) more _ _ (e .0), e .1)
 
 pub check-spec : {M : Type 1} → statement M
 check-spec =
     tie.close
     (tie.spec
-    judge-basis-requires
-    enum-known-b
-    same-length
-    same-length-2
-    returns
-    enum-told
+    Inv-loop
+    μ-loop
     start-requires
-    judge-package-requires
-    same-length-3
-    same-length-4
-    same-length-5
-    same-length-6
-    same-length-7
-    same-length-8
-    same-length-9
-    same-length-10
+    loop-holds
+    judge-sums-requires
+    enum-known-r
+    returns
+    enum-known-r-2
+    add-kind
+    loop-less
+    loop-again
+    judge-laps-requires
     returns-2)

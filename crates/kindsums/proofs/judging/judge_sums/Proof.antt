@@ -15,10 +15,11 @@ use Rattle.table.specs.Table.{fieldIn, orderIn}
 use Rattle.packedterms.specs.Formula.{formula, termAt, Room, Working}
 use Rattle.tablesums.proofs.Fitting.{short-fits, empty-short}
 use Rattle.tablesums.specs.Heading.{headIn}
+use Rattle.tablelies.proofs.SumWords.{line-words}
 use Rattle.kindsums.specs.Kinds.{sideIn}
 use Rattle.kindsums.specs.Judged.{verdictOf, LeftBehind}
 use Rattle.kindsums.proofs.KindItems.{KindItems, kind-items, target-placed, target-working, line-taken}
-use Rattle.kindsums.proofs.SumsJudging.{ItemsDone, LinesDone, items-start, lines-start, line-words, lines-over, lines-next, lines-wrong, lines-end, items-end}
+use Rattle.kindsums.proofs.SumsJudging.{ItemsDone, LinesDone, items-start, lines-start, lines-over, lines-next, lines-wrong, lines-end, items-end}
 use borrow.Author.Needs.{needs}
 use Rattle.kindsums.proofs.judging.judge_sums.Statement.{statement}
 use Rattle.kindsums.proofs.judging.judge_sums.Tie as tie
@@ -71,7 +72,7 @@ turn x = x .before .before
 abbrev entered : tie.After-pack-sides Inv-loop μ-loop Inv-items μ-items → tie.Then2 Inv-loop μ-loop Inv-items μ-items
 entered p = p .before .before .before
 
-abbrev packed : tie.After-take-line Inv-loop μ-loop Inv-items μ-items → tie.After-pack-sides Inv-loop μ-loop Inv-items μ-items
+abbrev packed : tie.After-take-item Inv-loop μ-loop Inv-items μ-items → tie.After-pack-sides Inv-loop μ-loop Inv-items μ-items
 packed k = k .before .before .before .before .before .before .before .before .before .before
 
 -- where a turn of the inner loop began, and the call
@@ -108,14 +109,13 @@ kind-numbers-requires : tie.Need-kind-numbers-requires Inv-loop μ-loop Inv-item
 kind-numbers-requires c κs = search needs
 
 line-at-requires : tie.Need-line-at-requires Inv-loop μ-loop Inv-items μ-items
-line-at-requires c κs = start c .pre .1 .0 .0 .low
+line-at-requires c κs = start c .pre .1 .0 .low
 
 items-holds : tie.Need-items-holds Inv-loop μ-loop Inv-items μ-items
 items-holds c =
     let s = start (c .before) in
-    let (reached, lettered) = s .pre .1 .0 in
     let read = c .line-at .ensures in
-    (omega arith, refl, refl, refl, s .pre .1 .1 .0, s .pre .1 .1 .1, items-start _ _ _ _ _ _ _ _ _ _ _ refl reached lettered _ (read .1) (read .0))
+    (omega arith, refl, refl, refl, s .pre .1 .1 .0, s .pre .1 .1 .1, items-start _ _ _ _ _ _ _ _ _ _ _ refl (s .pre .1 .0) _ (read .1) (read .0))
 
 add-item : tie.Need-add-item Inv-loop μ-loop Inv-items μ-items
 add-item c =
@@ -175,7 +175,7 @@ pack-sides-requires c κs =
     let x = c .before .before in
     let m = turn x in
     let i = m .loop .inv in
-    (opened m .pre .0 .keys, line-words _ _ _ _ _ _ _ _ _ _ _ _ _ _ (i .5) (is-next x), i .1, i .2)
+    (opened m .pre .0 .keys, line-words _ _ _ _ _ _ _ (i .5 .next) (is-next x), i .1, i .2)
 
 add-j : tie.Need-add-j Inv-loop μ-loop Inv-items μ-items
 add-j c =
@@ -188,19 +188,21 @@ add-j c =
     let b = s .pre .0 .basis in
     record { fits = omega arith }
 
-take-line-requires : tie.Need-take-line-requires Inv-loop μ-loop Inv-items μ-items
-take-line-requires c κs =
+take-item-requires : tie.Need-take-item-requires Inv-loop μ-loop Inv-items μ-items
+take-item-requires c κs =
     let p = c .before .before .before .before .before .before .before .before .before in
     let x = entered p in
     let m = turn x in
     let i = m .loop .inv in
     let (l, r) = p .pack-sides .ensures in
     let fits = next-fits _ _ _ _ _ _ _ (i .5 .next) (is-next x) in
+    let k = kinds (top (item m)) in
     let some = fits .some in
-    let few = i .0 in (
-      (opened m .pre .0, fits .coef, omega arith, items (kinds (top (item m))) .other-in (m .loop .s .of) (fits .most), omega arith, i .3),
-      ((l .short, r .short), i .4),
-    )
+    let few = i .0 in
+    let first : 1 ≤ k .kind-numbers .result .others + m .loop .s .of = omega arith in
+    let most = items k .other-in (m .loop .s .of) (fits .most) in
+    let fit = short-fits _ (opened m .pre .0) _ _ _ (l .short .few) (r .short .few) first most in
+    ((opened m .pre .0, fits .coef, first, most, omega arith, omega arith, i .3), ((l .short .six, r .short .six, fit), i .4))
 
 add-line : tie.Need-add-line Inv-loop μ-loop Inv-items μ-items
 add-line c =
@@ -229,14 +231,14 @@ loop-again c =
     let x = entered p in
     let m = turn x in
     let i = m .loop .inv in
-    let e = b .take-line .ensures in
+    let e = b .take-item .ensures in
     let (l, r) = p .pack-sides .ensures in
     let fits = next-fits _ _ _ _ _ _ _ (i .5 .next) (is-next x) in
     let gone = line-taken (items (kinds (top (item m)))) _ (m .loop .s) _ _ _ l r (fits .some) (fits .most) _ _ (e .1 .1) in
     let read = c .line-at2 .ensures in
     let left = c .before .if3 .left in
     let next = lines-next _ _ _ _ _ _ _ _ _ _ _ _ _ _ (i .5) (is-next x) _ gone in
-    (left, l .short .six .six, r .short .six .six, e .0 .1, e .1 .0, next (rw (terms-length (termAt _ _ _ _ _) 0 (b .take-line .result)) left) _ (read .1) (read .0))
+    (left, l .short .six .six, r .short .six .six, e .0 .1, e .1 .0, next (rw (terms-length (termAt _ _ _ _ _) 0 (b .take-item .result)) left) _ (read .1) (read .0))
 
 items-less : tie.Need-items-less Inv-loop μ-loop Inv-items μ-items
 items-less c =
@@ -271,13 +273,13 @@ returns-2 c =
     let x = entered p in
     let m = turn x in
     let i = m .loop .inv in
-    let e = b .take-line .ensures in
+    let e = b .take-item .ensures in
     let h = e .1 .0 .holds in
     let (l, r) = p .pack-sides .ensures in
     let fits = next-fits _ _ _ _ _ _ _ (i .5 .next) (is-next x) in
     let gone = line-taken (items (kinds (top (item m)))) _ (m .loop .s) _ _ _ l r (fits .some) (fits .most) _ _ (e .1 .1) in
     let over = lines-over _ _ _ _ _ _ _ _ _ _ _ _ _ _ (i .5) (is-next x) _ gone in
-    (over (rw (terms-length (termAt _ _ _ _ _) 0 (b .take-line .result)) (c .if3 .taken)), (tt, (h .arranged, h .room)))
+    (over (rw (terms-length (termAt _ _ _ _ _) 0 (b .take-item .result)) (c .if3 .taken)), (tt, (h .arranged, h .room)))
 
 returns-3 : tie.Need-returns-3 Inv-loop μ-loop Inv-items μ-items
 unfolding verdictOf LeftBehind
@@ -307,7 +309,7 @@ judge-sums-spec =
     is-item-requires
     pack-sides-requires
     add-j
-    take-line-requires
+    take-item-requires
     add-line
     line-at-requires-2
     loop-less

@@ -19,13 +19,15 @@ use Rattle.acceptance.specs.Check.{isUnder, overlapsJudged, itemsJudged}
 use Rattle.sumlines.specs.Lines.{sumsAt, heldFrom, firstIs, takenLine}
 use Rattle.sumorder.proofs.NextLine.{next-line, next-low, next-further}
 use Rattle.table.specs.Polynomials.{basisIn}
-use Rattle.table.specs.Table.{fieldIn, orderIn, basisCountIn}
+use Rattle.table.specs.Table.{fieldIn, orderIn, basisCountIn, itemsIn}
 use Rattle.packedterms.specs.Formula.{formula, Room, Working}
+use Rattle.tablesums.proofs.Fitting.{short-fits}
+use Rattle.tablelies.proofs.SumWords.{line-words}
 use Rattle.lapsums.specs.Judged.{lapsVerdictOf, LapsBehind}
 use Rattle.lapsums.proofs.BasisLeads.{basis-leads}
 use Rattle.lapsums.proofs.CountedHeads.{count-laid, count-short, count-few, count-lapped, count-first, count-behind}
 use Rattle.lapsums.proofs.OverlapsJudging.{OverlapsDone, LapDone, overlaps-start, lap-start, lap-not, lap-over, lap-next, lap-wrong, lap-end}
-use Rattle.lapsums.proofs.OverlapsJudging.{overlaps-end, line-words, line-small, line-names, line-tested, line-taken}
+use Rattle.lapsums.proofs.OverlapsJudging.{overlaps-end, line-small, line-names, line-tested, line-taken}
 use borrow.Author.Needs.{needs}
 use Rattle.lapsums.proofs.overlap_sums.judge_overlaps.Statement.{statement}
 use Rattle.lapsums.proofs.overlap_sums.judge_overlaps.Tie as tie
@@ -95,7 +97,7 @@ entered p = p .before .before .before
 abbrev packed : tie.After-is-under Inv-loop μ-loop Inv-items μ-items → tie.After-pack-sides Inv-loop μ-loop Inv-items μ-items
 packed u = u .before .before .before .before .before
 
-abbrev passed : tie.After-take-line Inv-loop μ-loop Inv-items μ-items → tie.Else2 Inv-loop μ-loop Inv-items μ-items
+abbrev passed : tie.After-take-item Inv-loop μ-loop Inv-items μ-items → tie.Else2 Inv-loop μ-loop Inv-items μ-items
 passed k = k .before .before .before .before .before .before .before .before .before
 
 -- the overlap of a turn of the inner loop, and the call
@@ -147,7 +149,7 @@ gens-in-requires : tie.Need-gens-in-requires Inv-loop μ-loop Inv-items μ-items
 gens-in-requires c κs = search needs
 
 line-at-requires : tie.Need-line-at-requires Inv-loop μ-loop Inv-items μ-items
-line-at-requires c κs = start (c .before) .pre .1 .0 .0 .low
+line-at-requires c κs = start (c .before) .pre .1 .0 .low
 
 first-overlap-requires : tie.Need-first-overlap-requires Inv-loop μ-loop Inv-items μ-items
 first-overlap-requires c κs =
@@ -159,7 +161,6 @@ items-holds c =
     let read = c .before .line-at .ensures in
     let b = c .before .before .before in
     let s = start b in
-    let (reached, lettered) = s .pre .1 .0 in
     let e = b .basis-in .ensures in
     let q = c .first-overlap .ensures in (
       refl,
@@ -169,7 +170,7 @@ items-holds c =
       s .pre .1 .1 .0,
       s .pre .1 .1 .1,
       walk-start _ _ (short b) (few b) _ (q .1 .0) (q .1 .1),
-      overlaps-start _ _ _ _ _ _ _ _ _ _ (next-line _ _ _ _ _ _ _ reached (read .1) (read .0)) lettered _ (count-first (s .pre .0 .1) e _ (q .0)) refl refl refl,
+      overlaps-start _ _ _ _ _ _ _ _ _ _ (next-line _ _ _ _ _ _ _ (s .pre .1 .0) (read .1) (read .0)) _ (count-first (s .pre .0 .1) e _ (q .0)) refl refl refl,
     )
 
 add-item : tie.Need-add-item Inv-loop μ-loop Inv-items μ-items
@@ -209,7 +210,7 @@ pack-sides-requires : tie.Need-pack-sides-requires Inv-loop μ-loop Inv-items μ
 pack-sides-requires c κs =
     let x = c .before .before in
     let i = turn x .loop .inv in
-    (opened (turn x) .pre .0 .0 .keys, line-words _ _ _ _ _ _ _ _ _ _ _ _ (i .5) (ours x), i .1, i .2)
+    (opened (turn x) .pre .0 .0 .keys, line-words _ _ _ _ _ _ _ (i .5 .next) (ours x), i .1, i .2)
 
 is-under-requires : tie.Need-is-under-requires Inv-loop μ-loop Inv-items μ-items
 is-under-requires c κs =
@@ -229,8 +230,8 @@ add-j c =
     let s = opened m in
     omega (arith, based (outer m) .gens-in .ensures, names x .1, s .pre .0 .0 .gens, s .pre .0 .0 .basis)
 
-take-line-requires : tie.Need-take-line-requires Inv-loop μ-loop Inv-items μ-items
-take-line-requires c κs =
+take-item-requires : tie.Need-take-item-requires Inv-loop μ-loop Inv-items μ-items
+take-item-requires c κs =
     let u = c .before .before .before .before .before .before .before .before .before in
     let p = packed u in
     let x = entered p in
@@ -244,7 +245,10 @@ take-line-requires c κs =
     let n₁ = n .1 in
     let (l, r) = p .pack-sides .ensures in
     let small = line-small _ _ _ _ _ _ _ _ _ _ _ _ (i .5) (ours x) in
-    ((tabled, small, omega arith, omega arith, omega arith, u .is-under .ensures .1), ((l .short, r .short), i .4))
+    let first : 1 ≤ based (outer m) .gens-in .result + m .loop .s .of = omega arith in
+    let last : based (outer m) .gens-in .result + m .loop .s .of ≤ itemsIn (opened m .args .t .now) = omega arith in
+    let fit = short-fits _ tabled _ _ _ (l .short .few) (r .short .few) first last in
+    ((tabled, small, first, last, omega arith, omega arith, u .is-under .ensures .1), ((l .short .six, r .short .six, fit), i .4))
 
 add-line : tie.Need-add-line Inv-loop μ-loop Inv-items μ-items
 add-line c =
@@ -275,12 +279,12 @@ loop-again c =
     let (l, r) = p .pack-sides .ensures in
     let most = c .before .if3 .left in
     let e = tested u true (not-false _ (y .if2 .left)) in
-    let q = k .take-line .ensures .1 .1 ∙ line-taken _ _ _ _ _ _ _ _ _ _ _ _ (i .5) (ours x) _ _ _ l r _ (based (outer m) .gens-in .ensures) in (
+    let q = k .take-item .ensures .1 .1 ∙ line-taken _ _ _ _ _ _ _ _ _ _ _ _ (i .5) (ours x) _ _ _ l r _ (based (outer m) .gens-in .ensures) in (
       most,
       l .short .six .six,
       r .short .six .six,
-      k .take-line .ensures .0 .1,
-      k .take-line .ensures .1 .0,
+      k .take-item .ensures .0 .1,
+      k .take-item .ensures .1 .0,
       lap-next _ _ _ _ _ _ _ _ _ _ _ _ (i .5) (ours x) e _ q _ (terms-length _ 0 _) most _ (c .line-at2 .ensures .1) (c .line-at2 .ensures .0),
     )
 
@@ -321,14 +325,15 @@ items-again c =
 returns : tie.Need-returns Inv-loop μ-loop Inv-items μ-items
 returns c =
     let m = c .before in
-    overlaps-end _ _ _ _ _ _ _ _ _ _ _ _ (m .items .inv .7) (c .items-test .left) _ refl
+    let (v, b) = overlaps-end _ _ _ _ _ _ _ _ _ _ _ _ (m .items .inv .7) (c .items-test .left) _ refl in
+    (v, (b, m .items .inv .5))
 
 returns-2 : tie.Need-returns-2 Inv-loop μ-loop Inv-items μ-items
 unfolding lapsVerdictOf LapsBehind
 returns-2 c =
     let u = c .before in
     let x = entered (packed u) in
-    (lap-not _ _ _ _ _ _ _ _ _ _ _ _ (turn x .loop .inv .5) (ours x) (tested u false (not-true _ (c .if2 .taken))), tt)
+    (lap-not _ _ _ _ _ _ _ _ _ _ _ _ (turn x .loop .inv .5) (ours x) (tested u false (not-true _ (c .if2 .taken))), (tt, turn x .loop .inv .4 .holds .room))
 
 returns-3 : tie.Need-returns-3 Inv-loop μ-loop Inv-items μ-items
 unfolding lapsVerdictOf LapsBehind
@@ -342,14 +347,14 @@ returns-3 c =
     let i = m .loop .inv in
     let (l, r) = p .pack-sides .ensures in
     let e = tested u true (not-false _ (y .if2 .left)) in
-    let q = k .take-line .ensures .1 .1 ∙ line-taken _ _ _ _ _ _ _ _ _ _ _ _ (i .5) (ours x) _ _ _ l r _ (based (outer m) .gens-in .ensures) in
-    (lap-over _ _ _ _ _ _ _ _ _ _ _ _ (i .5) (ours x) e _ q _ (terms-length _ 0 _) (c .if3 .taken), tt)
+    let q = k .take-item .ensures .1 .1 ∙ line-taken _ _ _ _ _ _ _ _ _ _ _ _ (i .5) (ours x) _ _ _ l r _ (based (outer m) .gens-in .ensures) in
+    (lap-over _ _ _ _ _ _ _ _ _ _ _ _ (i .5) (ours x) e _ q _ (terms-length _ 0 _) (c .if3 .taken), (tt, k .take-item .ensures .1 .0 .holds .room))
 
 returns-4 : tie.Need-returns-4 Inv-loop μ-loop Inv-items μ-items
 unfolding lapsVerdictOf LapsBehind
 returns-4 c =
     let x = c .before in
-    (lap-wrong _ _ _ _ _ _ _ _ _ _ _ _ (ended x .loop .inv .5) (none x) _ (terms-length _ 0 _) (c .if4 .taken), tt)
+    (lap-wrong _ _ _ _ _ _ _ _ _ _ _ _ (ended x .loop .inv .5) (none x) _ (terms-length _ 0 _) (c .if4 .taken), (tt, ended x .loop .inv .4 .holds .room))
 
 pub judge-overlaps-spec : {M : Type 1} → statement M
 judge-overlaps-spec =
@@ -371,7 +376,7 @@ judge-overlaps-spec =
     pack-sides-requires
     is-under-requires
     add-j
-    take-line-requires
+    take-item-requires
     add-line
     line-at-requires-2
     loop-less

@@ -30,7 +30,7 @@ add-base c =
     search needs
 
 loop-holds : tie.Need-loop-holds Inv-loop μ-loop
-loop-holds c = (omega arith, c .before .basis-in .ensures, search needs, codes-blank (c .before .before .pre .1 .1 .1))
+loop-holds c = (omega arith, c .before .basis-in .ensures, search needs, codes-blank (c .before .before .pre .1 .1))
 
 add-first-in : tie.Need-add-first-in Inv-loop μ-loop
 add-first-in c = search needs
@@ -95,7 +95,7 @@ returns c =
     let z = c .before .before .before .before in
     let t = z .args .t .now in
     let e = lead-codes-length t (gensIn t + 1) (basisCountIn t) in
-    codes-done (m .g) (omega (arith, m .inv .0, m .inv .1, c .loop-test .left, e)) (leads-indexable t (z .pre .0) (z .pre .1 .0) (z .pre .1 .1 .0)) (m .inv .3)
+    codes-done (m .g) (omega (arith, m .inv .0, m .inv .1, c .loop-test .left, e)) (leads-indexable t (z .pre .0) (z .pre .1 .0)) (m .inv .3)
 
 pub index-leads-spec : {M : Type 1} → statement M
 index-leads-spec =

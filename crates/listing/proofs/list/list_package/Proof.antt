@@ -1,6 +1,5 @@
 -- `list_package` answers as listing is defined: it reads, and lists the basis of a package that reads.
 use mathlib.Core.Path.{_≡_, sym, _∙_, ap}
-use Prim.Native.Nat.{ℕ, _≤_, _<_}
 use lib.ListN.{length}
 use native.Mathlib.Omega.{arith}
 use Rattle.package.specs.Held.{seenAll, countAll, gensAll, basisAll, FirstsHeld}
@@ -82,8 +81,13 @@ list-basis-requires c κs =
     let lo : length (w .last .1 .1 .1 .1 .0) ≡ 1024 = w .kept .1 .1 .1 .1 .0 in
     let ll : length (w .last .1 .1 .1 .1 .1 .0) ≡ 1024 = w .kept .1 .1 .1 .1 .1 .0 in
     let lf : length fs ≡ 98 = w .kept .1 .1 .1 .1 .1 .1 .0 in (
-      slices-terms _ _ _ _ _ _ fs _ _ (v .0 .1 .1 .0) (v .0 .1 .1 .1 .0) e marked (inside .1) (omega arith) (omega arith) (omega arith) (omega arith),
-      (basis-run _ _ _ _ _ _ fs _ _ (v .0 .1 .1 .0) (v .0 .1 .1 .1 .0) e marked (inside .1) (omega arith) (omega arith) (omega arith) (omega arith), few .1),
+      record {
+        p = _;
+        m = _;
+        terms = slices-terms _ _ _ _ _ _ fs _ _ (v .0 .1 .1 .0) (v .0 .1 .1 .1 .0) e marked (inside .1) (omega arith) (omega arith) (omega arith) (omega arith);
+        runs = basis-run _ _ _ _ _ _ fs _ _ (v .0 .1 .1 .0) (v .0 .1 .1 .1 .0) e marked (inside .1) (omega arith) (omega arith) (omega arith) (omega arith);
+      },
+      few .1,
     )
 
 returns : tie.Need-returns

@@ -1,11 +1,10 @@
 -- `list_words` lists the overlaps of words where the list fits, and says 19 where it does not.
-use mathlib.Core.Path.{_≡_, sym, _∙_, ap, ap₂}
+use mathlib.Core.Path.{sym, _∙_, ap, ap₂}
 use Prim.Native.Nat.{ℕ, _≤_, _<_}
 use native.Mathlib.Omega.{arith}
 use lib.ListN.{length}
 use Rattle.words.specs.Laid.{laidWords}
 use Rattle.overlaps.specs.Listing.{overlapText}
-use Rattle.services.specs.declared.Listed.{Listed}
 use Rattle.services.proofs.Room.{refusedList, no-room, no-room-kept, room-listed, room-written}
 use borrow.Author.Needs.{needs}
 use Rattle.listing.proofs.list.list_words.Statement.{statement}

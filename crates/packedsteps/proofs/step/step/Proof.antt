@@ -1,9 +1,8 @@
 -- `step` takes the line of the step away.
-use mathlib.Core.Path.{refl, _∙_, ap}
-use Prim.Native.Nat.{ℕ, _<_}
+use mathlib.Core.Path.{refl, _∙_}
+use Prim.Native.Nat.{_<_}
 use native.Mathlib.Omega.{arith}
 use lib.ListN.{getD}
-use Rattle.field.specs.Field.{fieldOf}
 use Rattle.algebra.proofs.Spots.{spot-found}
 use Rattle.table.specs.Polynomials.{basisIn}
 use Rattle.packedterms.specs.Formula.{wordAt, termAt}
@@ -67,26 +66,17 @@ mul-x c = let h = place (c .before .before .before .before .before .before .befo
 element-copy-out-x : tie.Need-element-copy-out-x
 element-copy-out-x c = place (c .before .before .before .before .before .before .before .before .before .before)
 
-prime-in-requires : tie.Need-prime-in-requires
-prime-in-requires c κs = search needs
-
-neg-requires : tie.Need-neg-requires
-neg-requires c κs =
-    let s = c .before .before .before .before .before .before .before .before .before .before .before .before in
-    let a = s .args in
-    rw (c .prime-in .ensures) (s .pre .0 .0 .prime, coef-small (a .t .now) (a .c .now) (a .l .now) (a .w .now) (a .o .now) (a .n) (s .pre .0 .1) (a .k) (s .pre .0 .2))
-
-add-onto-item-requires : tie.Need-add-onto-item-requires
-add-onto-item-requires c κs =
-    let x = c .before .before .before .before .before .before .before .before .before .before in
+take-onto-item-requires : tie.Need-take-onto-item-requires
+take-onto-item-requires c κs =
+    let x = c .before .before .before .before .before .before .before .before in
     let s = start x in
     let C = cut-at x in
     let L = leading s in
-    let n = c .before .before .before .before .before .before .before in
     let held = term-held (s .args .t .now) (s .args .c .now) (s .args .l .now) (s .args .w .now) (s .args .o .now) (s .args .n) (s .pre .0 .1) (s .args .k) (s .pre .0 .2) in
     let lo = C .some in
     let hi = C .most in
-    let small = rw (n .before .prime-in .ensures) at (n .neg .ensures .1) in
+    let a = s .args in
+    let small = coef-small (a .t .now) (a .c .now) (a .l .now) (a .w .now) (a .o .now) (a .n) (s .pre .0 .1) (a .k) (s .pre .0 .2) in
     rw (C .item) (
       (s .pre .0 .0, small, omega arith, omega arith, s .pre .0 .3, s .pre .1 .0 .2),
       (
@@ -97,15 +87,13 @@ add-onto-item-requires c κs =
 
 returns : tie.Need-returns
 returns c =
-    let x = c .before .before .before .before .before .before .before .before .before .before .before in
+    let x = c .before .before .before .before .before .before .before .before .before in
     let s = start x in
     let C = cut-at x in
     let L = leading s in
-    let n = c .before .before .before .before .before .before .before .before in
     let u = termAt (s .args .t .now) (s .args .c .now) (s .args .l .now) (s .args .w .now) (s .args .o .now) (s .args .k) in
-    let y = n .neg .ensures .0 ∙ ap (λ (p : ℕ). fieldOf p .neg (u .coef)) (n .before .prime-in .ensures) in
-    let e = c .add-onto-item .ensures in
-    let sum = step-sum (s .args .t .now) u _ (s .args .i) (s .args .of) (x .cut .result) _ _ C (s .pre .1 .1) _ (n .neg .result) y (L .polynomial) in
+    let e = c .take-onto-item .ensures in
+    let sum = step-sum (s .args .t .now) u _ (s .args .i) (s .args .of) (x .cut .result) _ _ C (s .pre .1 .1) _ (L .polynomial) in
     (e .0, (e .1 .0, ((rw (C .item) at (e .1 .1)) ∙ sum, step-line (s .args .t .now) u _ (s .args .i) (s .args .of) (x .cut .result) _ _ C (s .pre .1 .1))))
 
 pub step-spec : {M : Type 1} → statement M
@@ -122,7 +110,5 @@ step-spec =
     cut-requires
     mul-x
     element-copy-out-x
-    prime-in-requires
-    neg-requires
-    add-onto-item-requires
+    take-onto-item-requires
     returns)

@@ -7,9 +7,9 @@ use lib.ListN.{length}
 use Rattle.algebra.specs.Poly.{Term, Poly}
 use Rattle.working.specs.Working.{terms}
 use Rattle.working.specs.Polynomial.{polyTerm}
-use Rattle.working.proofs.Terms.{terms-none}
+use Rattle.working.proofs.Terms.{terms-none, terms-last}
 use Rattle.packedterms.specs.Formula.{formula, Holds}
-use Rattle.packedtexts.proofs.Loaded.{terms-last, none-held}
+use Rattle.packedtexts.proofs.Loaded.{none-held}
 use borrow.Author.Needs.{needs}
 use Rattle.packedtexts.proofs.loading.load.Statement.{statement}
 use Rattle.packedtexts.proofs.loading.load.Tie as tie

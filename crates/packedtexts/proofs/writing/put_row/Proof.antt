@@ -3,7 +3,7 @@ use mathlib.Core.List.{List, map}
 use Prim.Native.Nat.{ℕ}
 use native.Mathlib.Omega.{arith}
 use lib.ListN.{length-set}
-use Rattle.formwriting.proofs.Texts.{row-length, row-stored}
+use Rattle.packedtexts.proofs.Texts.{row-length, row-stored}
 use Rattle.packedwords.specs.Packed.{unpacked}
 use Rattle.table.specs.Table.{letterIn}
 use Rattle.packedterms.specs.Formula.{blocksAt}

@@ -1,6 +1,6 @@
 -- `row_len`: a line is a number, a space, a word and byte 10.
 use native.Mathlib.Omega.{arith}
-use Rattle.formwriting.proofs.Texts.{row-length, number-length}
+use Rattle.packedtexts.proofs.Texts.{row-length, number-length}
 use borrow.Author.Needs.{needs}
 use Rattle.packedtexts.proofs.writing.row_len.Statement.{statement}
 use Rattle.packedtexts.proofs.writing.row_len.Tie as tie

@@ -8,10 +8,10 @@ use Rattle.algebra.specs.Poly.{Term}
 use Rattle.working.specs.Change.{single}
 use Rattle.working.proofs.Terms.{terms-at}
 use Rattle.package.specs.Writing.{writeFormula}
-use Rattle.formwriting.proofs.Texts.{restText, text-start-length, counted-next, counted-end}
-use Rattle.packedterms.specs.Formula.{wordAt, termAt, formula, Holds}
+use Rattle.packedtexts.proofs.Texts.{restText, text-start-length, counted-next, counted-end}
+use Rattle.packedterms.specs.Formula.{blocksAt, wordAt, termAt, formula, Holds}
 use Rattle.packedterms.proofs.Places.{term-place}
-use Rattle.packedtexts.proofs.BlockTexts.{word-length}
+use Rattle.table.proofs.WordSizes.{word-size}
 use borrow.Author.Needs.{needs}
 use Rattle.packedtexts.proofs.writing.text_len.Statement.{statement}
 use Rattle.packedtexts.proofs.writing.text_len.Tie as tie
@@ -87,7 +87,7 @@ loop-again c =
       omega (arith, m .loop .inv .1, c .row-len .ensures .0),
       λ t w h.
           let v = wordAt t (z .args .l .now) w s in
-          let e = word-length t (z .args .l .now) w s ∙ ap (λ (y : ℕ). y % 256) (sym (c .before .wide .ensures)) in
+          let e = word-size t (getD (z .args .l .now) s 0) (blocksAt w s) ∙ ap (λ (y : ℕ). y % 256) (sym (c .before .wide .ensures)) in
           rw (c .row-len .ensures .1 v e) (counted-next (held z t w) (z .args .n) k (getD (z .args .c .now) s 0) (m .loop .r) _ v (i .loop-test .taken)
           (terms-at (held z t w) (z .args .n) k (single 0 []) (i .loop-test .taken)) (m .loop .inv .2 t w h)),
     )

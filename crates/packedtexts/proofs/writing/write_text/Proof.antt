@@ -10,7 +10,7 @@ use Rattle.working.specs.Working.{terms}
 use Rattle.working.specs.Change.{single}
 use Rattle.working.proofs.Terms.{terms-at}
 use Rattle.package.specs.Writing.{writeFormula}
-use Rattle.formwriting.proofs.Texts.{restText, text-start-length, counted-next, counted-end, stored-start, stored-next, stored-end}
+use Rattle.packedtexts.proofs.Texts.{restText, text-start-length, counted-next, counted-end, stored-start, stored-next, stored-end}
 use Rattle.packedterms.specs.Formula.{wordAt, termAt, formula}
 use Rattle.packedterms.proofs.Places.{term-place}
 use borrow.Author.Needs.{needs}

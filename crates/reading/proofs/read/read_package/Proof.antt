@@ -37,7 +37,7 @@ read-terms-requires c κs =
     let h = c .before .before .before .before .before .before .before .before .before in
     let p = h .before .before .before .before .before .before .before .before .before .pre in
     let x = rw (c .before .before .before .before .before .before .before .a2 .given .1) at (h .read-head-lines .ensures .1) in
-    ((x .0 .0, omega arith), ((x .1, x .2, h .before .if1 .left), (p .0, p .1, p .2, p .3, p .4)))
+    (x .0, ((omega arith, omega arith), ((x .1, x .2, h .before .if1 .left), (p .0, p .1, p .2, p .3, p .4))))
 
 enum-known-b : tie.Need-enum-known-b
 enum-known-b c = search needs

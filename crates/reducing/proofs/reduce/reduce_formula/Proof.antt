@@ -1,18 +1,42 @@
--- `reduce_formula` says 16 for a formula that does not read, and brings any other to its short form.
-use mathlib.Core.Path.{_≡_}
-use Prim.Native.Nat.{ℕ, _≤_}
+-- `reduce_formula` reads the formula, loads it into the arrays and reduces what they hold.
+use mathlib.Core.Path.{_≡_, sym, _∙_, ap, subst}
+use Prim.Native.Nat.{ℕ, _-_, _≤_}
 use native.Mathlib.Omega.{arith}
-use lib.ListN.{length}
+use lib.ListN.{length, take}
 use Rattle.package.specs.Held.{seenFormula, countFormula}
-use Rattle.reduceread.specs.Slices.{seenReduced, ShortHeld}
-use Rattle.reduceread.proofs.Reductions.{accepted-letters, formula-lies, wrong-refused}
+use Rattle.table.specs.Table.{primeIn, lettersIn}
+use Rattle.reducing.specs.Reductions.{seenReduced, ShortHeld}
+use Rattle.reducing.proofs.Cases.{wrong-refused, run-reduced}
+use Rattle.reducing.proofs.FormulaRead.{Read, answered}
 use borrow.Author.Needs.{needs}
 use Rattle.reducing.proofs.reduce.reduce_formula.Statement.{statement}
 use Rattle.reducing.proofs.reduce.reduce_formula.Tie as tie
-use Rattle.reducing.proofs.reduce.reduce_formula.Reads as reads
-use Rattle.reducing.proofs.reduce.reduce_formula.Lts as lts
-use Rattle.formulas.proofs.formula.read_formula.Reads as read-formula-reads
-use Rattle.reduceread.proofs.read.reduce_read.Reads as reduce-read-reads
+
+-- from the formula that was read back to the reader's answer, and to the start
+abbrev was-read : tie.After-r2 → tie.After-read-formula
+was-read b = b .before .before .before .before .before
+
+abbrev begun : tie.After-r2 → tie.Start
+begun b = b .before .before .before .before .before .before .before .before .before .before .before .before
+
+-- the formula that was read
+formula-in : (b : tie.After-r2)
+    → Read (primeIn (begun b .args .t .now)) (lettersIn (begun b .args .t .now)) (take (b .r2 .given .0 .0 - 0) (was-read b .read-formula .last .1 .1 .1 .1 .0))
+    (take (b .r2 .given .0 .0 - 0) (was-read b .read-formula .last .1 .1 .1 .1 .1 .0)) (take (b .r2 .given .0 .0 - 0) (was-read b .read-formula .last .1 .1 .1 .1 .1 .1 .0))
+    (begun b .args .text .now)
+formula-in b =
+    let a = was-read b in
+    let w = a .read-formula in
+    let g = b .r2 .given .1 in
+    let p = a .before .before .before .before .before .prime-in .ensures in
+    let l = a .before .before .before .before .letters-in .ensures in
+    answered _ _ _ _ _ _ _ _ _ _ p l g (w .ensures .0) (w .ensures .1) (begun b .pre .0 .letters) (omega (arith, w .kept)) (omega (arith, w .kept)) (omega (arith, w .kept))
+
+prime-in-requires : tie.Need-prime-in-requires
+prime-in-requires c κs = search needs
+
+letters-in-requires : tie.Need-letters-in-requires
+letters-in-requires c κs = search needs
 
 slice-aggregate-read-formula : tie.Need-slice-aggregate-read-formula
 slice-aggregate-read-formula c = search needs
@@ -24,7 +48,7 @@ slice-aggregate-read-formula-3 : tie.Need-slice-aggregate-read-formula-3
 slice-aggregate-read-formula-3 c = search needs
 
 read-formula-requires : tie.Need-read-formula-requires
-read-formula-requires c κs = ((accepted-letters _ _ _ _ _ _ _ (c .before .before .before .before .before .before .before .before .before .before .before .before .before .before .pre .0), omega arith), (omega arith, omega arith, omega arith))
+read-formula-requires c κs = search needs
 
 enum-known-r : tie.Need-enum-known-r
 enum-known-r c = search needs
@@ -32,101 +56,89 @@ enum-known-r c = search needs
 enum-known-r-2 : tie.Need-enum-known-r-2
 enum-known-r-2 c = search needs
 
-sub-reduce-read : tie.Need-sub-reduce-read
-sub-reduce-read c = search needs
+sub-load : tie.Need-sub-load
+sub-load c = search needs
 
-part-reduce-read-start : tie.Need-part-reduce-read-start
-part-reduce-read-start c = search needs
+part-load-start : tie.Need-part-load-start
+part-load-start c = search needs
 
-part-reduce-read-end : tie.Need-part-reduce-read-end
+part-load-end : tie.Need-part-load-end
 unfolding countFormula
-part-reduce-read-end c =
-    let q = rw (c .before .before .r2 .given .1) at (c .before .before .before .before .before .before .before .read-formula .ensures .1 .0) in
-    omega (arith, c .before .before .before .before .before .before .before .read-formula .kept .1 .1 .1 .1 .0)
+part-load-end c =
+    let b = rw (c .before .before .r2 .given .1) at (c .before .before .before .before .before .before .before .read-formula .ensures .1) in
+    omega (arith, b .0)
 
-sub-reduce-read-2 : tie.Need-sub-reduce-read-2
-sub-reduce-read-2 c = search needs
+sub-load-2 : tie.Need-sub-load-2
+sub-load-2 c = search needs
 
-part-reduce-read-start-2 : tie.Need-part-reduce-read-start-2
-part-reduce-read-start-2 c = search needs
+part-load-start-2 : tie.Need-part-load-start-2
+part-load-start-2 c = search needs
 
-part-reduce-read-end-2 : tie.Need-part-reduce-read-end-2
+part-load-end-2 : tie.Need-part-load-end-2
 unfolding countFormula
-part-reduce-read-end-2 c =
-    let q = rw (c .before .before .before .before .r2 .given .1) at (c .before .before .before .before .before .before .before .before .before .read-formula .ensures .1 .0) in
-    omega (arith, c .before .before .before .before .before .before .before .before .before .read-formula .kept .1 .1 .1 .1 .1 .0)
+part-load-end-2 c =
+    let b = rw (c .before .before .before .before .r2 .given .1) at (c .before .before .before .before .before .before .before .before .before .read-formula .ensures .1) in
+    omega (arith, b .0)
 
-sub-reduce-read-3 : tie.Need-sub-reduce-read-3
-sub-reduce-read-3 c = search needs
+sub-load-3 : tie.Need-sub-load-3
+sub-load-3 c = search needs
 
-part-reduce-read-start-3 : tie.Need-part-reduce-read-start-3
-part-reduce-read-start-3 c = search needs
+part-load-start-3 : tie.Need-part-load-start-3
+part-load-start-3 c = search needs
 
-part-reduce-read-end-3 : tie.Need-part-reduce-read-end-3
+part-load-end-3 : tie.Need-part-load-end-3
 unfolding countFormula
-part-reduce-read-end-3 c =
-    let q = rw (c .before .before .before .before .before .before .r2 .given .1) at (c .before .before .before .before .before .before .before .before .before .before .before .read-formula .ensures .1 .0) in
-    omega (arith, c .before .before .before .before .before .before .before .before .before .before .before .read-formula .kept .1 .1 .1 .1 .1 .1 .0)
+part-load-end-3 c =
+    let b = rw (c .before .before .before .before .before .before .r2 .given .1) at (c .before .before .before .before .before .before .before .before .before .before .before .read-formula .ensures .1) in
+    omega (arith, b .0)
 
-reduce-read-requires : tie.Need-reduce-read-requires
-unfolding seenFormula countFormula
-reduce-read-requires c κs =
-    let s = c .before .before .before .before .before .before .before .before .before .before .before .before .before .before .before .before .before .before .before .before .before .before .before .before .before .before .before .before .before .before .before .before .pre in
-    let f = c .before .before .before .before .before .before .before .before .before .before .before .before .before .before .before .before .before .read-formula in
-    let g = c .before .before .before .before .before .before .before .before .before .before .before .before .r2 .given .1 in
-    let e = rw g at (f .ensures .0) in
-    let q = rw g at (f .ensures .1) in
-    (s .0, (formula-lies (c .before .before .before .before .before .before .before .before .before .before .before .before .before .before .before .before .before .before .before .before .before .before .before .before .before .before .before .before .before .before .before .before .args .h) _ _ _ _ _ e (q .0) (q .1) (f .kept .1 .1 .1 .1 .0) (f .kept .1 .1 .1 .1 .1 .0) (f .kept .1 .1 .1 .1 .1 .1 .0), s .1))
+load-requires : tie.Need-load-requires
+load-requires c κs =
+    let r = formula-in (c .before .before .before .before .before .before .before .before .before .before .before) in
+    let z = c .before .before .before .before .before .before .before .before .before .before .before .before .before .before .before .before .before .before .before .before .before .before .before .pre in
+    ((z .0, r .given, omega (arith, r .few)), (r .lettered, (r .written, z .2)))
+
+reduce-held-requires : tie.Need-reduce-held-requires
+reduce-held-requires c κs =
+    let z = c .before .before .before .before .before .before .before .before .before .before .before .before .before .before .before .before .before .before .before .before .before .before .before .before .before .before .before .before .pre in
+    let r = formula-in (c .before .before .before .before .before .before .before .before .before .before .before .before .before .before .before .before) in
+    let e = c .before .before .before .before .load .ensures in
+    (z .0, z .1, e .1 .0, omega (arith, e .0, r .few))
 
 returns : tie.Need-returns
-unfolding seenFormula countFormula seenReduced ShortHeld
+unfolding seenReduced ShortHeld seenFormula
 returns c =
-    let s = c .before .before .before .before .before .before .before .before .before .before .before .before .before .before .before .before .before .before .before .before .before .pre in
     let e = rw (c .before .r .given .1) at (c .before .before .before .before .before .before .read-formula .ensures .0) in
-    (wrong-refused _ _ _ _ _ _ _ (s .0) _ _ _ e, tt)
-
-same-length : tie.Need-same-length
-same-length c = search needs
-
-same-length-2 : tie.Need-same-length-2
-same-length-2 c = search needs
-
-same-length-3 : tie.Need-same-length-3
-same-length-3 c = search needs
-
-same-length-4 : tie.Need-same-length-4
-same-length-4 c = search needs
-
-same-length-5 : tie.Need-same-length-5
-same-length-5 c = search needs
+    (wrong-refused _ _ _ _ (rw (c .before .before .before .before .before .before .before .before .before .before .before .prime-in .ensures, c .before .before .before .before .before .before .before .before .before .before .letters-in .ensures) at e), tt)
 
 returns-2 : tie.Need-returns-2
-returns-2 c = search needs
+returns-2 c =
+    let r = formula-in (c .before .before .before .before .before .before .before .before .before .before .before .before .before .before .before .before .before) in
+    let e = c .reduce-held .ensures in
+    (e .0 ∙ run-reduced _ _ _ _ _ (r .reads) (c .before .before .before .before .before .load .ensures .1 .1), e .1)
 
 pub reduce-formula-spec : {M : Type 1} → statement M
 reduce-formula-spec =
     tie.close
     (tie.spec
+    prime-in-requires
+    letters-in-requires
     slice-aggregate-read-formula
     slice-aggregate-read-formula-2
     slice-aggregate-read-formula-3
     read-formula-requires
     enum-known-r
     enum-known-r-2
-    sub-reduce-read
-    part-reduce-read-start
-    part-reduce-read-end
-    sub-reduce-read-2
-    part-reduce-read-start-2
-    part-reduce-read-end-2
-    sub-reduce-read-3
-    part-reduce-read-start-3
-    part-reduce-read-end-3
-    reduce-read-requires
+    sub-load
+    part-load-start
+    part-load-end
+    sub-load-2
+    part-load-start-2
+    part-load-end-2
+    sub-load-3
+    part-load-start-3
+    part-load-end-3
+    load-requires
+    reduce-held-requires
     returns
-    same-length
-    same-length-2
-    same-length-3
-    same-length-4
-    same-length-5
     returns-2)

@@ -1,9 +1,7 @@
 -- `start_difference` places the first product, and takes the second away.
-use mathlib.Core.Path.{_∙_, ap}
-use Prim.Native.Nat.{ℕ, _+_}
+use Prim.Native.Nat.{_+_}
 use native.Mathlib.Omega.{arith}
-use Rattle.field.specs.Field.{fieldOf}
-use Rattle.sumlines.proofs.Targets.{one-below}
+use Rattle.field.proofs.Fields.{below-of}
 use Rattle.tablesums.proofs.Fitting.{short-fits, empty-short}
 use Rattle.tablesums.proofs.Differences.{first-working, difference-is}
 use borrow.Author.Needs.{needs}
@@ -31,22 +29,12 @@ place-item-requires c κs =
     let fits = short-fits _ tabled 0 (s .args .sizes .right) item (none .short .few) (r .short .few) (omega arith) (omega arith) in
     ((tabled, omega arith, omega arith, nine), ((none .short .six, r .short .six, fits), s .pre .1 .1 .1))
 
-prime-in-requires : tie.Need-prime-in-requires
-prime-in-requires c κs = search needs
+add-take-item : tie.Need-add-take-item
+add-take-item c = search needs
 
-neg-requires : tie.Need-neg-requires
-neg-requires c κs =
-    let s = c .before .before .before .before .before .before .before .before .before .before in
-    let tabled = s .pre .0 .0 in
-    rw (c .prime-in .ensures) (tabled .prime, one-below _ (tabled .field))
-
-add-add-item : tie.Need-add-add-item
-add-add-item c = search needs
-
-add-item-requires : tie.Need-add-item-requires
-add-item-requires c κs =
-    let n = c .before .before .before .before .before .before .before in
-    let p = n .before .before in
+take-item-requires : tie.Need-take-item-requires
+take-item-requires c κs =
+    let p = c .before .before .before .before .before .before .before in
     let g = p .before .before .before .before .before .before .before .before in
     let s = g .before in
     let t = s .args .t .now in
@@ -56,16 +44,14 @@ add-item-requires c κs =
     let e = g .gens-in .ensures in
     let d = p .place-item .ensures in
     let d₀ = d .0 .0 in
-    let small = rw (n .before .prime-in .ensures) at (n .neg .ensures .1) in
     let item = g .gens-in .result + 1 + s .args .f .second in
     let fits = short-fits _ tabled (s .args .sizes .left) 0 item (l .short .few) (none .short .few) (omega arith) (omega arith) in
     let works = first-working t tabled (s .args .f .first) first _ (omega arith) _ _ _ _ _ _ _ (d .1 .0) (d .1 .1) in
-    ((tabled, small, omega arith, omega arith, omega arith, d .0 .1), ((l .short .six, none .short .six, fits), works))
+    ((tabled, below-of _ (tabled .field .one-lt), omega arith, omega arith, omega arith, omega arith, d .0 .1), ((l .short .six, none .short .six, fits), works))
 
 returns : tie.Need-returns
 returns c =
-    let n = c .before .before .before .before .before .before .before .before in
-    let p = n .before .before in
+    let p = c .before .before .before .before .before .before .before .before in
     let g = p .before .before .before .before .before .before .before .before in
     let s = g .before in
     let t = s .args .t .now in
@@ -74,10 +60,9 @@ returns c =
     let none = empty-short t in
     let e = g .gens-in .ensures in
     let d = p .place-item .ensures in
-    let a = c .add-item .ensures in
-    let y = n .neg .ensures .0 ∙ ap (λ (p : ℕ). fieldOf p .neg 1) (n .before .prime-in .ensures) in
+    let a = c .take-item .ensures in
     let is = difference-is t tabled (s .args .f) first second _ _ (omega arith) (omega arith) _ _ _ _ _ _ (none .word) (none .word) (l .word)
-    (r .word) (d .1 .1) (rw y at (a .1 .1)) in
+    (r .word) (d .1 .1) (a .1 .1) in
     ((omega (arith, d .0 .0, a .0 .0), a .0 .1), (a .1 .0, is))
 
 pub start-difference-spec : {M : Type 1} → statement M
@@ -88,8 +73,6 @@ start-difference-spec =
     add-base
     add-place-item
     place-item-requires
-    prime-in-requires
-    neg-requires
-    add-add-item
-    add-item-requires
+    add-take-item
+    take-item-requires
     returns)

@@ -20,14 +20,8 @@ abbrev μ-loop : tie.MeasureT-loop
 loop-holds : tie.Need-loop-holds Inv-loop μ-loop
 loop-holds c = search needs
 
-mul-slot-of : tie.Need-mul-slot-of Inv-loop μ-loop
-mul-slot-of c = search needs
-
 shared-slice-read-slot-of : tie.Need-shared-slice-read-slot-of Inv-loop μ-loop
 shared-slice-read-slot-of c = search needs
-
-mul-slot-of-2 : tie.Need-mul-slot-of-2 Inv-loop μ-loop
-mul-slot-of-2 c = search needs
 
 shared-slice-read-slot-of-2 : tie.Need-shared-slice-read-slot-of-2 Inv-loop μ-loop
 shared-slice-read-slot-of-2 c = search needs
@@ -79,9 +73,7 @@ skip-terms-spec =
     Inv-loop
     μ-loop
     loop-holds
-    mul-slot-of
     shared-slice-read-slot-of
-    mul-slot-of-2
     shared-slice-read-slot-of-2
     slot-of-requires
     returns

@@ -8,7 +8,9 @@ use lib.ListN.{length, drop}
 use borrow.Author.Needs.{needs}
 use denote.Ref.{now}
 use Rattle.package.proofs.TermJudging.{counted-word, seen-refused, seen-accepted, reach-judged, judged-room}
+use Rattle.package.proofs.AcceptedTerms.{accepted-small}
 use Rattle.package.proofs.TermSlices.{kept-length, inside-store}
+use Rattle.lists.proofs.Parts.{part-length}
 use Rattle.package.specs.Held.{aboveOf, heldTerms, seenTerms, WordsInside, TermsHeld}
 use Rattle.package.specs.Terms.{start, block2}
 use Rattle.text.specs.Pieces.{lines}
@@ -174,12 +176,20 @@ store-term-requires : tie.Need-store-term-requires Inv-loop μ-loop
 store-term-requires c κs =
     let t = c .before .before .before .before .before .before .before .before .before in
     let x = t .before .before .before .before .before .before .loop in
-    let a = t .before .before .before .before .before .before .before .before .before .before .before .before .before .args in
+    let z = t .before .before .before .before .before .before .before .before .before .before .before .before .before in
+    let a = z .args in
+    let p = z .pre in
     let s = now (a .s) in
-    let j = seen-accepted s _ _ _ _ _ _ _ (c .before .before .before .before .before .before .before .j2 .given .1) (t .judge-term .ensures .0) in
+    let g = c .before .before .before .before .before .before .before .j2 .given .1 in
+    let j = seen-accepted s _ _ _ _ _ _ _ g (t .judge-term .ensures .0) in
     let r = judged-room (a .h) (a .m) (aboveOf s (x .last)) (x .n) _ _ _ _ _ j in
     let b : x .n < 1024 = r .0 in
-    (omega (arith, x .inv .3), omega (arith, x .inv .4), omega (arith, x .inv .5), omega (arith, x .inv .6), omega (arith, x .inv .7))
+    let f = accepted-small (a .h) (a .m) (aboveOf s (x .last)) (x .n) _ _ _ _ _ (p .0 .1) (p .0 .2) j in
+    let d = reach-judged _ _ _ _ _ _ _ g (t .judge-term .ensures .1) in
+    let e = part-length _ _ s d in (
+      (omega (arith, x .inv .3), omega (arith, x .inv .4), omega (arith, x .inv .5), omega (arith, x .inv .6), omega (arith, x .inv .7)),
+      (omega (arith, f .kind), omega (arith, f .item), omega (arith, d, x .inv .2 .1), omega (arith, e, f .short, p .1 .0 .1)),
+    )
 
 add-n : tie.Need-add-n Inv-loop μ-loop
 add-n c =

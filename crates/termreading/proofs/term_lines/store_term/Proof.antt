@@ -4,14 +4,14 @@ use borrow.Author.Needs.{needs}
 use Rattle.termreading.proofs.term_lines.store_term.Statement.{statement}
 use Rattle.termreading.proofs.term_lines.store_term.Tie as tie
 
-mul-kinds : tie.Need-mul-kinds
-mul-kinds c = search needs
+cast-kinds : tie.Need-cast-kinds
+cast-kinds c = search needs
 
 slice-write-kinds : tie.Need-slice-write-kinds
 slice-write-kinds c = search needs
 
-mul-items : tie.Need-mul-items
-mul-items c = search needs
+cast-items : tie.Need-cast-items
+cast-items c = search needs
 
 slice-write-items : tie.Need-slice-write-items
 slice-write-items c = search needs
@@ -22,14 +22,17 @@ mul-coefs c = search needs
 slice-write-coefs : tie.Need-slice-write-coefs
 slice-write-coefs c = search needs
 
+cast-starts : tie.Need-cast-starts
+cast-starts c = search needs
+
 mul-starts : tie.Need-mul-starts
 mul-starts c = search needs
 
 slice-write-starts : tie.Need-slice-write-starts
 slice-write-starts c = search needs
 
-mul-lens : tie.Need-mul-lens
-mul-lens c = search needs
+cast-lens : tie.Need-cast-lens
+cast-lens c = search needs
 
 slice-write-lens : tie.Need-slice-write-lens
 slice-write-lens c = search needs
@@ -56,15 +59,16 @@ pub store-term-spec : {M : Type 1} → statement M
 store-term-spec =
     tie.close
     (tie.spec
-    mul-kinds
+    cast-kinds
     slice-write-kinds
-    mul-items
+    cast-items
     slice-write-items
     mul-coefs
     slice-write-coefs
+    cast-starts
     mul-starts
     slice-write-starts
-    mul-lens
+    cast-lens
     slice-write-lens
     same-length
     same-length-2

@@ -1,12 +1,12 @@
 -- `start` names the places in order. The loop's invariant: the entries before i do.
-use mathlib.Core.Path.{_≡_}
+use mathlib.Core.Path.{_≡_, sym, _∙_}
 use mathlib.Core.List.{List}
 use Prim.Native.Nat.{ℕ, _+_, _-_, _≤_, _<_}
 use native.Mathlib.Decide.{ℕ-discrete}
 use native.Mathlib.Omega.{arith}
 use lib.ListN.{length, getD, set}
 use lib.Seq.{getD-set-same, getD-set-other}
-use Rattle.working.proofs.Places.{holds-none}
+use Rattle.working.specs.Working.{Arranged}
 use borrow.Author.Needs.{needs}
 use Rattle.working.proofs.formula.start.Statement.{statement}
 use Rattle.working.proofs.formula.start.Tie as tie
@@ -18,6 +18,13 @@ own-next o i h e j q = go (ℕ-discrete j i)
     go : Dec (j ≡ i) → getD (set o i i) j 0 ≡ j
     go (yes d) = rw d (getD-set-same o i i 0 h)
     go (no d) = rw (getD-set-other o i j i 0 d) (e j (omega arith))
+
+-- where each entry names its own place, each place is named once
+own-arranged : (o : List ℕ) → ((i : ℕ) → i < length o → getD o i 0 ≡ i) → Arranged o
+own-arranged o e = record {
+  inside = λ i h. rw (e i h) h;
+  apart = λ i j h k q. sym (e i h) ∙ q ∙ e j k;
+}
 
 abbrev Inv-loop : tie.InvT-loop
 Inv-loop o₀ i₀ o i = (i ≤ length o₀) × (length o ≡ length o₀) × ((j : ℕ) → j < i → getD o j 0 ≡ j)
@@ -54,7 +61,7 @@ same-length c = search needs
 returns : tie.Need-returns Inv-loop μ-loop
 returns c =
     let m = c .before .loop in
-    holds-none (m .o) (λ j h. m .inv .2 j (search needs))
+    own-arranged (m .o) (λ j h. m .inv .2 j (search needs))
 
 pub start-spec : {M : Type 1} → statement M
 start-spec =

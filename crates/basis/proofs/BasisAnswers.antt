@@ -1,0 +1,45 @@
+-- What the numbers that refusals 8 and 9 name say of a basis, and what the answer on a basis tells.
+use mathlib.Core.Path.{_≡_, sym, ap, _∙_}
+use mathlib.Core.Logic.{_≢_}
+use mathlib.Core.List.{List}
+use Prim.Native.Nat.{ℕ}
+use Rattle.words.specs.Word.{Word}
+use Rattle.algebra.specs.Poly.{Poly}
+use Rattle.overlaps.specs.Overlaps.{leads}
+use Rattle.acceptance.specs.Check.{Verdict, refusal, fine, thenJudge, leadsJudged, apartJudged, basisJudged}
+use Rattle.basis.specs.declared.BasisAnswer.{BasisAnswer}
+use Rattle.basis.specs.declared.BasisAnswer.the-variants.{Unsound, Sound}
+use Rattle.basis.specs.Told.{told}
+use Rattle.basis.specs.Heads.{HeadsOf}
+use Rattle.basis.specs.Answer.{basisVerdict, HeadsWhere}
+use Rattle.basis.proofs.ToldNumbers.{told-refused, told-fine}
+
+module _ (ps : List Poly) (r : ℕ) (e : told 8 r ≡ leadsJudged ps 1) where
+  -- 8 where a polynomial is zero or does not lead with 1
+  pub lead-judged : r ≢ 0 → refusal 8 r ≡ basisJudged ps
+  unfolding basisJudged thenJudge
+  lead-judged l = sym (ap (λ (v : Verdict). thenJudge v (apartJudged (leads ps) (leads ps) 1)) (sym e ∙ told-refused 8 r l))
+
+  -- then 9 where a leading word holds another, or nothing
+  pub apart-told : r ≡ 0 → (ws : List Word) → ws ≡ leads ps → (k : ℕ) → told 9 k ≡ apartJudged ws ws 1 → told 9 k ≡ basisJudged ps
+  unfolding basisJudged thenJudge
+  apart-told z ws w k d =
+      d
+      ∙ ap (λ (us : List Word). apartJudged us us 1) w
+      ∙ sym (ap (λ (v : Verdict). thenJudge v (apartJudged (leads ps) (leads ps) 1)) (sym e ∙ told-fine 8 r .1 z))
+
+-- The verdict of an answer.
+module _ (r : BasisAnswer) (v : Verdict) (e : basisVerdict r ≡ v) where
+  pub basis-refused : (n k : ℕ) → r ≡ Unsound n k → v ≡ refusal n k
+  unfolding basisVerdict
+  basis-refused n k q = sym e ∙ rw q
+
+  pub basis-sound : r ≡ Sound → v ≡ fine
+  unfolding basisVerdict
+  basis-sound q = sym e ∙ rw q
+
+-- Where the basis is sound its leading words are laid.
+pub heads-sound : (coefs starts lens bytes firsts : List ℕ) (base n : ℕ) (heads headlens : List ℕ) (r : BasisAnswer) → HeadsWhere coefs starts lens bytes firsts base n heads headlens r → r ≡ Sound
+    → HeadsOf coefs starts lens bytes firsts base n heads headlens
+unfolding HeadsWhere
+heads-sound coefs starts lens bytes firsts base n heads headlens r h q = rw q at h

@@ -1,0 +1,4 @@
+pub mod Told
+pub mod Lies
+pub mod Heads
+pub mod Answer

@@ -1,0 +1,56 @@
+// Refusals 8 and 9 for a basis.
+
+use crate::BasisAnswer;
+use crate::holding::first_holding;
+use crate::leading::leading_words;
+ghost use mathlib.Core.Path.{_≡_};
+ghost use Prim.Native.Nat.{_≤_};
+ghost use lib.ListN.{length};
+ghost use Rattle.working.specs.Family.{familyAt};
+ghost use Rattle.acceptance.specs.Check.{basisJudged};
+ghost use Rattle.basis.specs.Lies.{BasisLies};
+ghost use Rattle.basis.specs.Answer.{basisVerdict, HeadsWhere};
+
+// 8 for all of count polynomials, then 9 for all; where the basis is sound, heads and headlens lay its leading words, else they are scratch.
+pub fn judge_basis(
+    coefs: &[u32],
+    starts: &[u32],
+    lens: &[u8],
+    bytes: &[u8],
+    firsts: &[usize],
+    base: usize,
+    count: usize,
+    heads: &mut [usize],
+    headlens: &mut [usize],
+) -> BasisAnswer
+    requires { ⌜ BasisLies (now coefs) (now starts) (now lens) (now bytes) (now firsts) base count ⌝ }
+    requires { ⌜ (count ≤ length (now heads)) × (count ≤ length (now headlens)) ⌝ }
+    ensures { λ r. ⌜ basisVerdict r ≡ basisJudged (familyAt (now (coefs .entry)) (now (starts .entry)) (now (lens .entry)) (now (bytes .entry)) (now (firsts .entry)) base count) ⌝ }
+    ensures { λ r. ⌜ HeadsWhere (now (coefs .entry)) (now (starts .entry)) (now (lens .entry)) (now (bytes .entry)) (now (firsts .entry)) base count (now (heads .exit)) (now (headlens .exit)) r ⌝ }
+{
+    let a = leading_words(
+        coefs,
+        starts,
+        lens,
+        bytes,
+        firsts,
+        base,
+        count,
+        heads,
+        headlens,
+    );
+    if a != 0 {
+        return BasisAnswer::Unsound {
+            number: 8,
+            place: a,
+        };
+    }
+    let b = first_holding(heads, headlens, bytes, count);
+    if b != 0 {
+        return BasisAnswer::Unsound {
+            number: 9,
+            place: b,
+        };
+    }
+    BasisAnswer::Sound
+}

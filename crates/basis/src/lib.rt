@@ -1,0 +1,12 @@
+// What a basis's leading words are, and refusals 8 and 9. The polynomials lie in slices: coefficients, starts and lengths of the terms' words in the
+// bytes, and where each polynomial's terms begin.
+
+pub mod basis;
+pub mod holding;
+pub mod leading;
+
+// What leading coefficients and leading words are judged: refused with number and place, or sound.
+pub enum BasisAnswer {
+    Unsound { number: u32, place: usize },
+    Sound,
+}

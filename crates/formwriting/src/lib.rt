@@ -1,3 +1,0 @@
-// The working formula written as text, and how many bytes that has.
-
-pub mod writing;

@@ -1,3 +1,0 @@
--- What this crate and `reducing` are proved by.
-pub mod BasisLeads
-pub mod Reductions

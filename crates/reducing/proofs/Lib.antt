@@ -1,0 +1,4 @@
+-- What bringing a formula to its short form is proved by.
+mod BlankIndex
+mod Cases
+mod FormulaRead

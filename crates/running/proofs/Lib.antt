@@ -1,4 +1,0 @@
-pub mod Progress
-pub mod RunTurns
-pub mod Multiples
-pub mod NotLonger

@@ -1,3 +1,0 @@
-// Steps one after the other, within a budget.
-
-pub mod running;

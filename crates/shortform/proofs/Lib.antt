@@ -1,1 +1,0 @@
--- The laws that this crate's functions are proved by.

@@ -1,4 +1,0 @@
-pub mod Targets
-pub mod StepParts
-pub mod WordParts
-pub mod LeadLengths

@@ -1,4 +1,0 @@
-pub mod Rotations
-pub mod Inserted
-mod NewTerm
-mod SameWord
