@@ -5,7 +5,7 @@
 # make install       installs the command, the library, the header and vaultgarlic.pc under PREFIX (/usr/local), in DESTDIR if that is set
 # make uninstall     removes what install installed
 # make bench         the time of each service, beside two Rust implementations; BENCH='--ms 1000' for more repeats (docs/BENCH.md)
-# make soak          the comparison with the oracle on 1,000,000 inputs, and a word at a place for each that is random
+# make soak          the comparison with the oracle on 1,000,000 inputs, with a word at a place and a word packed for each that is random
 # make stack         the bytes of stack that a call of each service takes, measured on the examples
 # make gate-times    the last gate's seconds and edits, crate by crate, for docs/changes/; of another log with LOG=FILE; beside those of an
 #                    earlier log with BEFORE=FILE
@@ -21,7 +21,8 @@
 # make command-test  the command and the program, the packages and formulas of examples/, the sessions in the documents
 # make install-test  installs to a temporary folder, builds a client there, uninstalls
 # make guard         the library and the trial archive on buffers of exact length, under the sanitizers
-# make differential  the oracle's own tests, and the comparison with it on 50,000 inputs, and a word at a place for each that is random
+# make differential  the oracle's own tests, and the comparison with it on 50,000 inputs, with a word at a place and a word packed for each
+#                    that is random
 
 SHELL = /bin/bash
 
@@ -110,7 +111,7 @@ differential: $(LIBRARY) $(TRIALS)
 	@echo '== the oracle, and the comparison with it'
 	@cargo test $(CARGO_OPTIONS) >target/differential.log || { cat target/differential.log; exit 1; }
 	@$(ORACLE) >target/differential.log || { cat target/differential.log; exit 1; }
-	@tail -n 2 target/differential.log
+	@tail -n 3 target/differential.log
 
 soak: $(LIBRARY) $(TRIALS)
 	@echo '== comparison with the oracle, 1,000,000 inputs'

@@ -19,16 +19,18 @@
 #include "trials.h"
 #include "vaultgarlic.h"
 
-/* What a case calls: a service, or the trial of a word at a place of another. */
-enum { CHECK, LISTING, SHORT_FORM, MEMBERSHIP, STANDS_AT, FUNCTIONS };
+/* What a case calls: a service, or the trial of a word at a place of another or of a word that is packed. */
+enum { CHECK, LISTING, SHORT_FORM, MEMBERSHIP, STANDS_AT, PACK, FUNCTIONS };
 enum { EXACT, BEFORE_GUARD, BEHIND_GUARD, PLACEMENTS };
 
-static const char *const names[FUNCTIONS] = {"check", "listing", "short form", "membership", "word at a place"};
+static const char *const names[FUNCTIONS] = {"check",      "listing",         "short form",
+                                             "membership", "word at a place", "word packed"};
 static const char *const placement_names[PLACEMENTS] = {"from malloc", "before a guard page", "behind a guard page"};
 
 /* The ten numbers of a case, in the order of the file: 64 bits each, lowest byte first, as machines that this
  * client runs on hold them. For a word at a place the package is the word, the formula the other word, and the
- * budget the place; number and place are the two fields of the answer. */
+ * budget the place; number and place are the two fields of the answer. A word that is packed is the package; number
+ * says whether it fits, and its six numbers are what is written. */
 typedef struct {
     uint64_t service, package_len, formula_len, budget, out_len;
     uint64_t number, place, count, last, written;
@@ -89,9 +91,16 @@ static answer call(const head *h, const uint8_t *package, const uint8_t *formula
         vg_membership r = vg_member(package, h->package_len, formula, h->formula_len, (uint32_t)h->budget);
         return (answer){r.number, r.place, r.steps, r.member};
     }
-    default: {
+    case STANDS_AT: {
         vg_trial_stood r = vg_trial_stands_at(package, h->package_len, formula, h->formula_len, h->budget);
         return (answer){r.stands, r.compared, 0, 0};
+    }
+    default: {
+        vg_trial_packed r = vg_trial_pack(package, h->package_len);
+        if (h->out_len != sizeof r.blocks)
+            stop("not the room of six numbers");
+        memcpy(out, r.blocks, sizeof r.blocks);
+        return (answer){r.fits, 0, 0, 0};
     }
     }
 }

@@ -24,4 +24,14 @@ typedef struct {
  * empty word stands at every place from 0 to w_len. */
 vg_trial_stood vg_trial_stands_at(const uint8_t *b, size_t b_len, const uint8_t *w, size_t w_len, size_t at);
 
+typedef struct {
+    bool fits;          /* whether the bytes are a word of at most 72 letters */
+    uint64_t blocks[6]; /* the numbers that it is packed into */
+} vg_trial_packed;
+
+/* The word w packed, as the services pack words: twelve letters of five bits to a number, the first letter in bits 55
+ * to 59, `a` as 26 down to `z` as 1, and zeros behind the last letter. Bytes that are no word of at most 72 letters
+ * `a` to `z` are answered with no and six zeros. */
+vg_trial_packed vg_trial_pack(const uint8_t *w, size_t w_len);
+
 #endif

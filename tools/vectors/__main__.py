@@ -9,12 +9,13 @@ import formulas
 import gf256
 import listing
 import order
+import packing
 import places
 import reading
 import real
 import sums
 import terms
 
-for part in (reading, basis, sums, terms, formulas, order, listing, real, gf256, places):
+for part in (reading, basis, sums, terms, formulas, order, listing, real, gf256, places, packing):
     part.cases()
 cases.write()

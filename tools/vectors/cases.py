@@ -3,8 +3,9 @@
 A case is a head line of 81 bytes (service letter, name, room lent, bytes of the package, bytes of the formula, budget), the package, the
 formula, and one byte 10. Its answer is the first 51 bytes of the head line, the numbers of the service's answer, and the bytes written.
 The services: L listing, C check, S short form, M membership, P the program overlap_list; W, no service, asks whether the package's bytes, a
-word, stand in the formula's, another, at the place that the budget's field says. Of an output slice of 65,536 bytes `~` the first
-`room` are lent; the last number of an answer of L and S counts the bytes behind those written that were kept.
+word, stand in the formula's, another, at the place that the budget's field says; N, no service either, asks for the six numbers that the
+package's bytes, a word, are packed into. Of an output slice of 65,536 bytes `~` the first `room` are lent; the last number of an answer of
+L and S counts the bytes behind those written that were kept.
 """
 ROOM = 65536
 LARGEST = 4294967295
@@ -30,6 +31,18 @@ def stood(name, word, other, place, stands, compared):
     """Whether a word stands at a place of another, 1 or 0, and how many letters are compared."""
     shown = ["%d letters" % len(w) if len(w) > 8 else w or "-" for w in (word, other)]
     store("W", "%s: %s in %s at %d" % (name, *shown, place), word, " %d %d\n" % (stands, compared), other, place)
+
+
+def packed(name, word, *numbers):
+    """A word is packed into these numbers, and zeros behind them up to six."""
+    shown = "%d letters" % len(word) if len(word) > 8 else word or "-"
+    six = [*numbers, *[0] * (6 - len(numbers))]
+    store("N", "%s: %s" % (name, shown), word, " 1 %d %d %d %d %d %d\n" % (*six,))
+
+
+def unpacked(name, word):
+    """Bytes that are no word of at most 72 letters are not packed."""
+    store("N", name, word, " 0 0 0 0 0 0 0\n")
 
 
 def listed(name, package, answer, room=ROOM):
@@ -89,4 +102,4 @@ def write():
         f.write(b"".join(stored))
     with open("crates/vectors/stdout", "w") as f:
         f.write("".join(answers) + "end\n")
-    print(len(stored), "cases:", ", ".join("%d %s" % (sum(c[:1] == s for c in stored), s.decode()) for s in (b"L", b"C", b"S", b"M", b"P", b"W")))
+    print(len(stored), "cases:", ", ".join("%d %s" % (sum(c[:1] == s for c in stored), s.decode()) for s in (b"L", b"C", b"S", b"M", b"P", b"W", b"N")))

@@ -2,7 +2,6 @@
 -- the package's relations and basis.
 use mathlib.Core.Path.{_≡_, refl, sym, _∙_, ap, ap₂}
 use mathlib.Core.Bool.{Bool, true, false, false≢true}
-use mathlib.Core.Logic.{_⊎_, inl, inr}
 use mathlib.Core.List.{List, [], _∷_}
 use Prim.Native.Nat.{ℕ, zero, suc, _+_, _-_, _≤_, _<_}
 use native.Mathlib.Decide.{ℕ-discrete, decLt}
@@ -13,9 +12,7 @@ use lib.ListN.{length, getD, take, drop, length-take, length-drop}
 use lib.Seq.{getD-take, getD-drop, ext-getD}
 use borrow.Author.Tests.{eq-eqb, ne-eqb, ltb-false, lt-ltb, le-ltb}
 use Rattle.lists.specs.All.{All, done, _also_}
-use Rattle.words.specs.Word.{Word}
 use Rattle.lists.proofs.Every.{all-at}
-use Rattle.algebra.specs.Poly.{Term, Poly}
 use Rattle.text.specs.Bytes.{within}
 use Rattle.text.specs.Pieces.{part}
 use Rattle.text.proofs.Bytewise.{within-in}
@@ -26,13 +23,12 @@ use Rattle.package.specs.declared.Reading.the-variants.{Whole}
 use Rattle.package.specs.Held.{heldTerm, heldTerms, seenAll, WordsInside, StartsMarked}
 use Rattle.package.specs.Items.{slot, slotsOf, firstOf, itemTerms}
 use Rattle.package.specs.Package.{Package, readPackage, packageLimits}
-use Rattle.package.specs.Readable.{under, TermInOrder, TermsInOrder, noTerms, termThen, Readable}
+use Rattle.package.specs.Readable.{under, TermsInOrder, noTerms, termThen, Readable}
 use Rattle.package.specs.Terms.{TermLine, LineAbove, start, itemsOf, counted, hasRoom}
 use Rattle.package.proofs.ItemStarts.{slots-kept}
 use Rattle.package.proofs.TermSlices.{kept-length}
-use Rattle.package.proofs.LineBounds.{HeadBounds}
-use Rattle.package.proofs.ReadingFacts.{kept-at, wholePackage, whole-readable, whole-bounds, whole-item}
-use Rattle.working.specs.Polynomial.{polyTerm, polyAt}
+use Rattle.package.proofs.ReadingFacts.{kept-at, wholePackage, whole-readable, whole-item}
+use Rattle.working.specs.Polynomial.{polyTerm}
 use Rattle.working.specs.Working.{terms}
 use Rattle.working.specs.Family.{between, polyBetween, familyAt, Terms, Runs}
 use Rattle.working.proofs.Terms.{terms-length, terms-at}

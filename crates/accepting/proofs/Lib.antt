@@ -1,4 +1,3 @@
 -- What `accept` is proved by.
-mod LeadLetters
 mod PackageRead
 mod PackageTable

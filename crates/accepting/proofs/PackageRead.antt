@@ -4,7 +4,6 @@ use mathlib.Core.List.{List}
 use Prim.Native.Nat.{ℕ, _+_, _≤_, _<_}
 use native.Mathlib.Omega.{arith}
 use lib.ListN.{length}
-use Rattle.algebra.specs.Poly.{Poly}
 use Rattle.working.specs.Family.{familyAt}
 use Rattle.package.specs.declared.Head.{Head}
 use Rattle.package.specs.declared.Reading.{Reading}

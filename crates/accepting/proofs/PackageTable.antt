@@ -3,18 +3,13 @@
 use mathlib.Core.Path.{_≡_, refl, sym, _∙_, ap, ap₂, subst}
 use mathlib.Core.Logic.{_≢_}
 use mathlib.Core.List.{List, []}
-use Prim.Native.Nat.{ℕ, _+_, _<_}
-use native.Mathlib.Omega.{arith}
-use lib.ListN.{length}
+use Prim.Native.Nat.{ℕ, _+_}
 use Rattle.lists.specs.All.{All}
-use Rattle.lists.proofs.Every.{all-at}
-use Rattle.words.specs.Word.{Word, Letter}
 use Rattle.words.specs.Order.{wordOrder}
-use Rattle.words.specs.Laid.{laidWord, laidWords}
-use Rattle.words.proofs.LaidWords.{laid-length, laid-at}
+use Rattle.words.specs.Laid.{laidWords}
 use Rattle.field.specs.Field.{fieldOf}
 use Rattle.algebra.specs.Poly.{Poly}
-use Rattle.overlaps.specs.Overlaps.{leads, overlaps}
+use Rattle.overlaps.specs.Overlaps.{leads}
 use Rattle.working.specs.Family.{familyAt}
 use Rattle.package.specs.declared.Head.{Head}
 use Rattle.package.specs.Package.{Package, refused, read}
@@ -39,7 +34,6 @@ use Rattle.lapsums.specs.Answer.{answerOf}
 use Rattle.lapsums.specs.declared.Checked.{Checked}
 use Rattle.lapsums.specs.declared.Checked.the-variants.{Rejected, Accepted}
 use Rattle.accepting.specs.Accepted.{TableAccepted}
-use Rattle.accepting.proofs.LeadLetters.{leads-letters}
 use Rattle.accepting.proofs.PackageRead.{PackageRead}
 
 -- The numbers of an answer, and whether it rejects.
@@ -102,18 +96,10 @@ module _ {bytes cs os ls fs : List ℕ} {h : Head} {m at n : ℕ} (r : PackageRe
     nonzero-in = subst (All (λ f. f ≢ [])) (sym ps) (fine-nonzero polys sound)
 
     pub heads-in : (heads headlens : List ℕ) → HeadsOf cs os ls bytes fs (h .gens + 1) (h .basis) heads headlens → HeadsIn t heads headlens bytes
-    heads-in heads headlens H = record { laid = rw b (H .laid); leading = leading; letters = letters }
-      where
-        leading : laidWords heads headlens bytes (basisCountIn t) ≡ leads (basisIn t)
-        leading = ap (laidWords heads headlens bytes) b ∙ H .leading ∙ ap leads (sym ps)
-
-        words : All (All (Letter 26)) (laidWords heads headlens bytes (basisCountIn t))
-        words = subst (All (All (Letter 26))) (sym (leading ∙ ap leads basis-is)) (leads-letters P readable)
-
-        letters : (j : ℕ) → j < basisCountIn t → All (Letter 26) (laidWord heads headlens bytes j)
-        letters j k =
-            let len = laid-length heads headlens bytes (basisCountIn t) in
-            subst (All (Letter 26)) (laid-at heads headlens bytes (basisCountIn t) j k) (all-at words [] j (omega arith))
+    heads-in heads headlens H = record {
+      laid = rw b (H .laid);
+      leading = ap (laidWords heads headlens bytes) b ∙ H .leading ∙ ap leads (sym ps);
+    }
 
     -- What it answers.
     abbrev verdict : Verdict

@@ -1,20 +1,18 @@
 -- What check, short form and membership answer, case by case.
 use mathlib.Core.Path.{_≡_, refl, sym, _∙_, ap}
 use mathlib.Core.List.{List, [], _∷_}
-use Prim.Native.Nat.{ℕ, zero, suc, _≤_, _<_}
+use Prim.Native.Nat.{ℕ, zero, suc}
 use native.Mathlib.Omega.{arith}
 use lib.ListN.{length}
-use borrow.Author.Tests.{lt-ltb, le-ltb}
 use Rattle.algebra.specs.Poly.{Poly}
-use Rattle.package.specs.Package.{Package, refused, read}
+use Rattle.package.specs.Package.{refused}
 use Rattle.package.specs.Writing.{writeFormula}
 use Rattle.overlaps.specs.Overlaps.{leads, overlaps}
 use Rattle.acceptance.specs.Acceptance.{acceptance}
 use Rattle.accepting.specs.Accepted.{TableAccepted}
 use Rattle.table.specs.Polynomials.{basisIn}
-use Rattle.acceptance.specs.Reduction.{Reduction, refusedBy, shortForm, reduction}
+use Rattle.acceptance.specs.Reduction.{refusedBy, shortForm, reduction}
 use Rattle.services.specs.declared.Checked.{Checked}
-use Rattle.services.specs.declared.Shortened.{Shortened}
 use Rattle.services.specs.declared.Membership.{Membership}
 use Rattle.answering.specs.MemberNumber.{noneLeft}
 use Rattle.services.specs.Services.{checkAnswer, checkedAs, fitted, shortAnswer, shortenedAs, shortOutput, shortenedInto, memberAnswer, membershipAs}

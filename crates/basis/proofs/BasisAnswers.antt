@@ -1,6 +1,5 @@
--- What the numbers that refusals 8 and 9 name say of a basis, and what the answer on a basis tells.
+-- What refusals 8 and 9 say of a basis, and what the answer on a basis tells.
 use mathlib.Core.Path.{_≡_, sym, ap, _∙_}
-use mathlib.Core.Logic.{_≢_}
 use mathlib.Core.List.{List}
 use Prim.Native.Nat.{ℕ}
 use Rattle.words.specs.Word.{Word}
@@ -12,21 +11,20 @@ use Rattle.basis.specs.declared.BasisAnswer.the-variants.{Unsound, Sound
 use Rattle.basis.specs.Told.{told}
 use Rattle.basis.specs.Heads.{HeadsOf}
 use Rattle.basis.specs.Answer.{basisVerdict, HeadsWhere}
-use Rattle.basis.proofs.ToldNumbers.{told-refused, told-fine}
 
-module _ (ps : List Poly) (r : ℕ) (e : told 8 r ≡ leadsJudged ps 1) where
+module _ (ps : List Poly) where
   -- 8 where a polynomial is zero or does not lead with 1
-  pub lead-judged : r ≢ 0 → refusal 8 r ≡ basisJudged ps
+  pub lead-judged : (k : ℕ) → refusal 8 k ≡ leadsJudged ps 1 → refusal 8 k ≡ basisJudged ps
   unfolding basisJudged thenJudge
-  lead-judged l = sym (ap (λ (v : Verdict). thenJudge v (apartJudged (leads ps) (leads ps) 1)) (sym e ∙ told-refused 8 r l))
+  lead-judged k e = ap (λ (v : Verdict). thenJudge v (apartJudged (leads ps) (leads ps) 1)) e
 
   -- then 9 where a leading word holds another, or nothing
-  pub apart-told : r ≡ 0 → (ws : List Word) → ws ≡ leads ps → (k : ℕ) → told 9 k ≡ apartJudged ws ws 1 → told 9 k ≡ basisJudged ps
+  pub apart-told : fine ≡ leadsJudged ps 1 → (ws : List Word) → ws ≡ leads ps → (k : ℕ) → told 9 k ≡ apartJudged ws ws 1 → told 9 k ≡ basisJudged ps
   unfolding basisJudged thenJudge
-  apart-told z ws w k d =
+  apart-told e ws w k d =
       d
       ∙ ap (λ (us : List Word). apartJudged us us 1) w
-      ∙ sym (ap (λ (v : Verdict). thenJudge v (apartJudged (leads ps) (leads ps) 1)) (sym e ∙ told-fine 8 r .1 z))
+      ∙ ap (λ (v : Verdict). thenJudge v (apartJudged (leads ps) (leads ps) 1)) e
 
 -- The verdict of an answer.
 module _ (r : BasisAnswer) (v : Verdict) (e : basisVerdict r ≡ v) where

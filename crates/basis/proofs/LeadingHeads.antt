@@ -17,8 +17,7 @@ use Rattle.working.specs.Working.{terms}
 use Rattle.working.specs.Polynomial.{polyTerm}
 use Rattle.working.specs.Family.{between, polyBetween, familyAt}
 use Rattle.working.proofs.Between.{between-length}
-use Rattle.acceptance.specs.Check.{refusal, leadsJudged}
-use Rattle.basis.specs.Told.{told}
+use Rattle.acceptance.specs.Check.{refusal, fine, leadsJudged}
 use Rattle.basis.specs.Lies.{BasisLies}
 use Rattle.basis.specs.Heads.{HeadsOf}
 
@@ -80,15 +79,14 @@ module _ (coefs starts lens bytes firsts : List ℕ) (base count : ℕ) (L : Bas
     pub length-within : first g < last g → getD lens (first g) 0 ≤ 24
     length-within k = let x = L .runs .most g h in L .terms .short (first g) (omega arith)
 
-    pub leads-zero : last g ≤ first g → told 8 (g + 1) ≡ leadsJudged (familyAt coefs starts lens bytes firsts (base + g) (count - g)) (g + 1)
-    unfolding told leadsJudged
-    leads-zero k = rw (family-next g h, poly-none coefs starts lens bytes (first g) (last g) k, add-one g)
+    pub leads-zero : last g ≤ first g → refusal 8 (g + 1) ≡ leadsJudged (familyAt coefs starts lens bytes firsts (base + g) (count - g)) (g + 1)
+    unfolding leadsJudged
+    leads-zero k = rw (family-next g h, poly-none coefs starts lens bytes (first g) (last g) k)
 
     pub leads-other : first g < last g → getD coefs (first g) 0 ≢ 1
-        → told 8 (g + 1) ≡ leadsJudged (familyAt coefs starts lens bytes firsts (base + g) (count - g)) (g + 1)
-    unfolding told leadsJudged
-    leads-other k n =
-        rw (family-next g h, poly-some coefs starts lens bytes (first g) (last g) k within, leadsJudged, ne-eqb (getD coefs (first g) 0) 1 n, add-one g)
+        → refusal 8 (g + 1) ≡ leadsJudged (familyAt coefs starts lens bytes firsts (base + g) (count - g)) (g + 1)
+    unfolding leadsJudged
+    leads-other k n = rw (family-next g h, poly-some coefs starts lens bytes (first g) (last g) k within, leadsJudged, ne-eqb (getD coefs (first g) 0) 1 n)
 
     pub leads-next : first g < last g → getD coefs (first g) 0 ≡ 1
         → leadsJudged (familyAt coefs starts lens bytes firsts (base + (g + 1)) (count - (g + 1))) (g + 1 + 1)
@@ -115,8 +113,8 @@ module _ (coefs starts lens bytes firsts : List ℕ) (base count : ℕ) (L : Bas
   pub leads-start : leadsJudged (familyAt coefs starts lens bytes firsts (base + 0) (count - 0)) (0 + 1) ≡ leadsJudged (familyAt coefs starts lens bytes firsts base count) 1
   leads-start = let e : count - 0 ≡ count = omega arith in rw (add-zero base, e)
 
-  pub leads-end : (g : ℕ) → count ≤ g → told 8 0 ≡ leadsJudged (familyAt coefs starts lens bytes firsts (base + g) (count - g)) (g + 1)
-  unfolding told leadsJudged familyAt
+  pub leads-end : (g : ℕ) → count ≤ g → fine ≡ leadsJudged (familyAt coefs starts lens bytes firsts (base + g) (count - g)) (g + 1)
+  unfolding leadsJudged familyAt
   leads-end g h = let e : count - g ≡ 0 = omega arith in rw e
 
   module _ (heads headlens : List ℕ) (F : Filled starts lens firsts base count heads headlens) where

@@ -1,4 +1,4 @@
--- What a number that names the first refused item says: 0 that none is refused.
+-- What a number that names the first refused item says: 0 that none is refused. And what refusal 9 asks of two words: whether one stands inside the other.
 use mathlib.Core.Bool.{Bool, true, false}
 use Prim.Native.Nat.{ℕ, zero, suc}
 use lib.Dec.{eqb}

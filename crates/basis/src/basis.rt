@@ -2,7 +2,6 @@
 
 use crate::BasisAnswer;
 use crate::holding::first_holding;
-use crate::leading::leading_words;
 ghost use mathlib.Core.Path.{_≡_};
 ghost use Prim.Native.Nat.{_≤_};
 ghost use lib.ListN.{length};
@@ -28,28 +27,25 @@ pub fn judge_basis(
     ensures { λ r. ⌜ basisVerdict r ≡ basisJudged (familyAt (now (coefs .entry)) (now (starts .entry)) (now (lens .entry)) (now (bytes .entry)) (now (firsts .entry)) base count) ⌝ }
     ensures { λ r. ⌜ HeadsWhere (now (coefs .entry)) (now (starts .entry)) (now (lens .entry)) (now (bytes .entry)) (now (firsts .entry)) base count (now (heads .exit)) (now (headlens .exit)) r ⌝ }
 {
-    let a = leading_words(
-        coefs,
-        starts,
-        lens,
-        bytes,
-        firsts,
-        base,
-        count,
-        heads,
-        headlens,
-    );
-    if a != 0 {
-        return BasisAnswer::Unsound {
-            number: 8,
-            place: a,
-        };
+    let mut g = 0;
+    while g < count {
+        let a = firsts[base + g];
+        let b = firsts[base + g + 1];
+        if b <= a || coefs[a] != 1 {
+            return BasisAnswer::Unsound {
+                number: 8,
+                place: g + 1,
+            };
+        }
+        heads[g] = starts[a] as usize;
+        headlens[g] = lens[a] as usize;
+        g += 1;
     }
-    let b = first_holding(heads, headlens, bytes, count);
-    if b != 0 {
+    let k = first_holding(heads, headlens, bytes, count);
+    if k != 0 {
         return BasisAnswer::Unsound {
             number: 9,
-            place: b,
+            place: k,
         };
     }
     BasisAnswer::Sound

@@ -3,7 +3,6 @@
 
 pub mod basis;
 pub mod holding;
-pub mod leading;
 
 // What leading coefficients and leading words are judged: refused with number and place, or sound.
 pub enum BasisAnswer {

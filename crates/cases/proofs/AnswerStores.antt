@@ -2,14 +2,19 @@
 use mathlib.Core.Path.{_≡_}
 use mathlib.Core.List.{List, [], _∷_, _++_}
 use Prim.Native.Nat.{ℕ, _+_, _^_, _≤_, _<_}
+use native.Mathlib.Nat.{lt-of-lt-of-le}
 use native.Mathlib.Omega.{arith}
-use lib.ListN.{length, take, drop, length-append}
+use lib.Dec.{lit≤}
+use lib.ListN.{length, getD, take, drop, length-append}
 use lib.Seq.{sets, sets-eq, take-append-seam}
+use Rattle.words.specs.Word.{Word}
 use Rattle.text.specs.Ascii.{ascii}
 use Rattle.lists.proofs.Stores.{stored-then}
 use Rattle.printing.specs.Printed.{numbersLine, printedText}
 use Rattle.printing.proofs.NumbersLine.{numbers-length}
 use Rattle.lending.specs.Kept.{countKept}
+use Rattle.trials.specs.PackedBlocks.{sixBlocks}
+use Rattle.trials.proofs.PackedLetters.{firstSix, blocks-low}
 use Rattle.cases.specs.CaseTexts.{outputText, programText}
 
 -- Two to five numbers of 64 bits in a line.
@@ -26,6 +31,23 @@ module _ (a b c : ℕ) (x : a < 2 ^ 64) (y : b < 2 ^ 64) (z : c < 2 ^ 64) where
 
   pub five-numbers-length : (m n : ℕ) → m < 2 ^ 64 → n < 2 ^ 64 → length (numbersLine (m ∷ n ∷ a ∷ b ∷ c ∷ [])) ≤ 106
   five-numbers-length m n g h = omega (arith, numbers-length m (n ∷ a ∷ b ∷ c ∷ []) g, four-numbers-length n h)
+
+-- A number, and the six of a word that is packed.
+pub seven-numbers-length : (n : ℕ) (w : Word) (bs : List ℕ) → n < 2 ^ 64 → bs ≡ sixBlocks w → length (numbersLine (n ∷ firstSix bs)) ≤ 148
+seven-numbers-length n w bs h e =
+    let rest = block 1 ∷ block 2 ∷ block 3 ∷ block 4 ∷ block 5 ∷ [] in
+    omega (
+      arith,
+      numbers-length n (block 0 ∷ rest) h,
+      numbers-length (block 0) rest (low 0 (omega arith)),
+      five-numbers-length (block 3) (block 4) (block 5) (low 3 (omega arith)) (low 4 (omega arith)) (low 5 (omega arith)) (block 1) (block 2) (low 1 (omega arith)) (low 2 (omega arith)),
+    )
+  where
+    block : ℕ → ℕ
+    block j = getD bs j 0
+
+    low : (j : ℕ) → j < 6 → getD bs j 0 < 2 ^ 64
+    low j k = rw e (lt-of-lt-of-le (blocks-low w j k) (lit≤ tt))
 
 -- Two texts, stored one behind the other.
 pub stored-both : (l l₁ l₂ : List ℕ) (at a b : ℕ) (xs ys : List ℕ) → (a ≡ at + length xs) × (l₁ ≡ sets l at xs) → (b ≡ a + length ys) × (l₂ ≡ sets l₁ a ys)

@@ -12,8 +12,10 @@ use Rattle.printing.specs.Printed.{numbersLine}
 use Rattle.services.specs.declared.Listed.{Listed}
 use Rattle.services.specs.declared.Shortened.{Shortened}
 use Rattle.services.specs.Services.{checkedAs, listedAs, listedInto, shortenedAs, shortenedInto, membershipAs}
+use Rattle.trials.specs.PackedBlocks.{packable, sixBlocks}
+use Rattle.trials.proofs.PackedLetters.{firstSix, six-entries}
 use Rattle.cases.specs.HeadLine.{roomSaid, budgetSaid}
-use Rattle.cases.specs.CaseTexts.{checkedText, membershipText, outputText, tildes, listedText, shortenedText, yesNumber, standingText, programText, answerText}
+use Rattle.cases.specs.CaseTexts.{checkedText, membershipText, outputText, tildes, listedText, shortenedText, yesNumber, standingText, packedText, programText, answerText}
 
 -- The letter, and the text that each one asks for.
 module _ (head bytes text : List ℕ) where
@@ -42,10 +44,17 @@ module _ (head bytes text : List ℕ) where
   unfolding answerText
   answer-standing c l s m w = rw (answerText, ne-eqb letter 67 c, ne-eqb letter 76 l, ne-eqb letter 83 s, ne-eqb letter 77 m, eq-eqb letter 87 w)
 
-  pub answer-program : (letter ≡ 67 → ⊥) → (letter ≡ 76 → ⊥) → (letter ≡ 83 → ⊥) → (letter ≡ 77 → ⊥) → (letter ≡ 87 → ⊥)
+  pub answer-packed : (letter ≡ 67 → ⊥) → (letter ≡ 76 → ⊥) → (letter ≡ 83 → ⊥) → (letter ≡ 77 → ⊥) → (letter ≡ 87 → ⊥) → letter ≡ 78
+      → answerText head bytes text ≡ packedText bytes
+  unfolding answerText
+  answer-packed c l s m w n =
+      rw (answerText, ne-eqb letter 67 c, ne-eqb letter 76 l, ne-eqb letter 83 s, ne-eqb letter 77 m, ne-eqb letter 87 w, eq-eqb letter 78 n)
+
+  pub answer-program : (letter ≡ 67 → ⊥) → (letter ≡ 76 → ⊥) → (letter ≡ 83 → ⊥) → (letter ≡ 77 → ⊥) → (letter ≡ 87 → ⊥) → (letter ≡ 78 → ⊥)
       → answerText head bytes text ≡ programText bytes
   unfolding answerText
-  answer-program c l s m w = rw (answerText, ne-eqb letter 67 c, ne-eqb letter 76 l, ne-eqb letter 83 s, ne-eqb letter 77 m, ne-eqb letter 87 w)
+  answer-program c l s m w n =
+      rw (answerText, ne-eqb letter 67 c, ne-eqb letter 76 l, ne-eqb letter 83 s, ne-eqb letter 77 m, ne-eqb letter 87 w, ne-eqb letter 78 n)
 
 -- Listing's answer and its output slice give listing's text.
 pub listed-text : (bytes out₀ out : List ℕ) (room n : ℕ) (a : Listed) → n ≡ room → out₀ ≡ tildes → a ≡ listedAs bytes n → out ≡ listedInto bytes (take n out₀) ++ drop n out₀
@@ -65,6 +74,12 @@ pub standing-text : (b w : Word) (place at compared y : ℕ) (t : Bool) → at �
     → standingText b w place ≡ numbersLine (y ∷ compared ∷ [])
 unfolding standingText
 standing-text b w place at compared y t p e f g = rw (g, f, e, p)
+
+-- The answer of packing gives its text.
+pub packed-text : (w : Word) (bs : List ℕ) (y : ℕ) (t : Bool) → t ≡ packable w → bs ≡ sixBlocks w → y ≡ yesNumber t
+    → packedText w ≡ numbersLine (y ∷ firstSix bs)
+unfolding packedText
+packed-text w bs y t p e g = rw (g, e, p, ← six-entries w)
 
 -- A text that was stored is stored under any name.
 pub stored-as : (l l₁ xs ys : List ℕ) (at r : ℕ) → ys ≡ xs → ((r ≡ at + length xs) × (r ≤ length l)) × (l₁ ≡ sets l at xs)

@@ -1,5 +1,6 @@
 -- What is printed for a case: the first 51 bytes of its head line, which are the service's letter and the case's name, and then what the
--- service answered, its numbers in a line and the bytes that it wrote. One letter is no service's: it asks whether a word stands in another.
+-- service answered, its numbers in a line and the bytes that it wrote. Two letters are no service's: one asks whether a word stands in another,
+-- one for the numbers that a word is packed into.
 use mathlib.Core.Bool.{Bool, true, false}
 use mathlib.Core.List.{List, [], _∷_, _++_}
 use Prim.Native.Nat.{ℕ}
@@ -13,6 +14,7 @@ use Rattle.lending.specs.Kept.{countKept}
 use Rattle.services.specs.declared.Checked.{Checked}
 use Rattle.services.specs.declared.Membership.{Membership}
 use Rattle.services.specs.Services.{checkedAs, listedAs, listedInto, shortenedAs, shortenedInto, membershipAs}
+use Rattle.trials.specs.PackedBlocks.{packable, sixBlocks}
 use Rattle.cases.specs.HeadLine.{roomSaid, budgetSaid}
 
 -- The check: number, place, overlaps.
@@ -64,10 +66,16 @@ unfoldable pub standingText : Word → Word → ℕ → List ℕ
 unfolding numbersLine yesNumber standsAt comparedAt
 standingText b w at = numbersLine (yesNumber (standsAt b w at) ∷ comparedAt b w at ∷ [])
 
+-- A word packed: whether it is one of at most 72 letters, and its six numbers.
+unfoldable pub packedText : Word → List ℕ
+unfolding numbersLine yesNumber sixBlocks
+packedText w = numbersLine (yesNumber (packable w) ∷ sixBlocks w)
+
 -- What the service answers that the head line's first byte says: C the check, L listing, S the short form, M membership; for W, whether the
--- package's bytes stand in the formula's at the place that the budget says; for any other byte, the program.
+-- package's bytes stand in the formula's at the place that the budget says; for N, the numbers that the package's bytes are packed into; for any
+-- other byte, the program.
 unfoldable pub answerText : List ℕ → List ℕ → List ℕ → List ℕ
-unfolding checkedText listedText shortenedText membershipText standingText programText checkedAs membershipAs roomSaid budgetSaid
+unfolding checkedText listedText shortenedText membershipText standingText packedText programText checkedAs membershipAs roomSaid budgetSaid
 answerText head bytes text =
     elim (eqb (getD head 0 0) 67) [
       | true ↦ checkedText (checkedAs bytes)
@@ -79,7 +87,7 @@ answerText head bytes text =
             | true ↦ membershipText (membershipAs bytes text (budgetSaid head))
             | false ↦ elim (eqb (getD head 0 0) 87) [
               | true ↦ standingText bytes text (budgetSaid head)
-              | false ↦ programText bytes
+              | false ↦ elim (eqb (getD head 0 0) 78) [ true ↦ packedText bytes | false ↦ programText bytes ]
             ]
           ]
         ]

@@ -2,6 +2,7 @@
 
 use crate::head;
 use crate::outputs;
+use crate::packed;
 use crate::standing;
 use printing::print_into;
 use printing::put_numbers_line;
@@ -71,6 +72,9 @@ fn put_answer(text: &mut [u8], at: usize, line: &[u8], package: &[u8], formula: 
     }
     if service == b'W' {
         return standing::put_standing(text, at, line, package, formula);
+    }
+    if service == b'N' {
+        return packed::put_packed(text, at, package);
     }
     put_printed(text, at, package)
 }

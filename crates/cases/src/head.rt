@@ -1,6 +1,7 @@
 // A case's head line, 81 bytes: the service's letter and a space; the case's name, 49 bytes, filled up with spaces; and then, each behind a
 // space, the bytes of room that are lent for the answer, the package's bytes and the formula's bytes, five digits each, and the budget, ten
-// digits; and the line end. Under the letter W the package is a word, the formula another, and the budget a place of that.
+// digits; and the line end. Under the letter W the package is a word, the formula another, and the budget a place of that; under N the package is a
+// word.
 
 use overlaps::shared::lesser;
 ghost use mathlib.Core.Path.{_≡_};

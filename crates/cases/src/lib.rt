@@ -3,4 +3,5 @@
 pub mod answers;
 pub mod head;
 mod outputs;
+mod packed;
 mod standing;

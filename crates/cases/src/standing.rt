@@ -11,7 +11,7 @@ ghost use Rattle.cases.specs.HeadLine.{budgetSaid};
 ghost use Rattle.cases.specs.CaseTexts.{yesNumber, standingText};
 
 // 1 for yes, 0 for no.
-fn yes_number(yes: bool) -> u64
+pub fn yes_number(yes: bool) -> u64
     ensures { λ r. ⌜ r ≡ yesNumber yes ⌝ }
 {
     if yes {

@@ -14,14 +14,13 @@ use Rattle.algebra.specs.Ideal.{Family, family}
 use Rattle.algebra.specs.Steps.{takeAway}
 use Rattle.package.specs.declared.Head.{Head}
 use Rattle.package.specs.Sums.{SumLine}
-use Rattle.acceptance.specs.Content.{sumOf, lineOf}
-use Rattle.acceptance.specs.Check.{Verdict, refusal, thenJudge, less, anyLine, sumVerdict, sumsJudged}
-use Rattle.acceptance.proofs.LinesTaken.{less-over, less-more, end-right, end-wrong}
+use Rattle.acceptance.specs.Check.{Verdict, refusal, anyLine, sumsJudged}
 use Rattle.sumlines.specs.declared.SumAt.{SumAt}
 use Rattle.sumlines.specs.Lines.{sumsAt, heldLine, heldFrom, NumberedFrom, firstIs, Inside, takenLine}
 use Rattle.sumorder.specs.Reached.{Past, all-left, Reached}
 use Rattle.sumorder.proofs.LineOrder.{sums-skip, past-one}
-use Rattle.sumorder.proofs.NextLine.{NextLine, next-line, lines-are, its-kind, its-sum, next-reached, no-line-left, next-item}
+use Rattle.sumorder.proofs.NextLine.{NextLine, next-line, lines-are, its-kind, next-reached, next-item}
+use Rattle.sumorder.proofs.ItemJudging.{itemThen, line-over, line-more, item-wrong, item-right}
 use Rattle.kindsums.specs.declared.SumsAnswer.{SumsAnswer}
 use Rattle.kindsums.specs.declared.SumsAnswer.the-variants.{Passed}
 use Rattle.kindsums.specs.Judged.{verdictOf, LeftBehind}
@@ -33,7 +32,7 @@ module _ (h : Head) (number kind : ℕ) (K : Operations) (O : Order) (G : Family
 
   -- the same, where the sum of item g + 1 has come to f
   abbrev linesFrom : List SumLine → ℕ → Poly → Verdict
-  linesFrom ss g f = thenJudge (sumVerdict number (g + 1) (less anyLine K O G f (sumOf kind (g + 1) ss))) (itemsFrom ss (g + 1))
+  linesFrom ss g f = itemThen number kind (g + 1) anyLine K O G (λ (ss : List SumLine). itemsFrom ss (g + 1)) ss f
 
   abbrev whole : Verdict
   whole = sumsJudged number kind K O G ss₀ fs 1
@@ -72,6 +71,9 @@ module _ (h : Head) (number kind : ℕ) (K : Operations) (O : Order) (G : Family
   }
 
   module _ (at line g : ℕ) (f : Poly) (s : SumAt) (d : LinesDone at line g f s) where
+    abbrev later : List SumLine → Verdict
+    later ss = itemsFrom ss (g + 1)
+
     module _ (p : firstIs kind (g + 1) (heldFrom bytes line s) ≡ true) where
       abbrev x : SumLine
       x = heldLine bytes line s
@@ -80,17 +82,12 @@ module _ (h : Head) (number kind : ℕ) (K : Operations) (O : Order) (G : Family
       ss = sumsAt bytes (s .next) (suc line)
 
       -- there is no test before it
-      any : anyLine (lineOf x) ≡ true
+      any : anyLine (takenLine bytes s) ≡ true
       unfolding anyLine
       any = refl
 
-      -- the sum of the item begins with this line
-      with-line : thenJudge (sumVerdict number (g + 1) (less anyLine K O G f (x ∷ sumOf kind (g + 1) ss))) (itemsFrom (x ∷ ss) (g + 1)) ≡ whole
-      with-line = rw (its-sum h kind (g + 1) bytes at line s (d .next) p) at (rw (lines-are h kind (g + 1) bytes at line s (d .next) p) at (d .same))
-
       pub lines-over : (f′ : Poly) → f′ ≡ takeAway K O G f (takenLine bytes s) → 512 < length f′ → refusal 10 line ≡ whole
-      unfolding thenJudge sumVerdict
-      lines-over f′ e l = rw (less-over anyLine K O G f x (sumOf kind (g + 1) ss) any (rw e at l)) at with-line
+      lines-over f′ e = line-over number kind (g + 1) anyLine K O G later whole h bytes at line s (d .next) f (d .same) p any f′ e
 
       pub lines-next : (f′ : Poly) → f′ ≡ takeAway K O G f (takenLine bytes s) → length f′ ≤ 512 → (s′ : SumAt)
           → (s′ .present ≡ true → Inside bytes (s .next) s′)
@@ -98,27 +95,22 @@ module _ (h : Head) (number kind : ℕ) (K : Operations) (O : Order) (G : Family
           → LinesDone (s .next) (line + 1) g f′ s′
       lines-next f′ e l s′ i t =
           let k = its-kind h kind (g + 1) bytes at line s (d .next) p in
-          let skip : itemsFrom (x ∷ ss) (g + 1) ≡ itemsFrom ss (g + 1) = sums-skip number kind K O G x ss (drop (g + 1) fs) (g + 1 + 1) (λ q. let z = k .1 in omega arith) in
+          let skip : later (x ∷ ss) ≡ later ss = sums-skip number kind K O G x ss (drop (g + 1) fs) (g + 1 + 1) (λ q. let z = k .1 in omega arith) in
           record {
             next = next-line h kind (g + 1) bytes (s .next) (line + 1) s′ (next-reached h kind (g + 1) bytes at line s (d .next) p) i t;
             past = rw (add-one line) (past-one kind (rw (lines-are h kind (g + 1) bytes at line s (d .next) p) at (d .past)) (k .0));
-            same = rw (e, add-one line) (rw (less-more anyLine K O G f x (sumOf kind (g + 1) ss) any (rw e at l), skip) at with-line);
+            same = line-more number kind (g + 1) anyLine K O G later whole h bytes at line s (d .next) f (d .same) p any f′ e l skip;
           }
 
     module _ (p : firstIs kind (g + 1) (heldFrom bytes line s) ≡ false) where
-      without : thenJudge (sumVerdict number (g + 1) (less anyLine K O G f [])) (itemsFrom (sumsAt bytes at line) (g + 1)) ≡ whole
-      without = rw (no-line-left h kind (g + 1) bytes at line s (d .next) p) at (d .same)
-
       pub lines-wrong : 0 < length f → refusal number (g + 1) ≡ whole
-      unfolding thenJudge
-      lines-wrong z = rw (end-wrong anyLine K O G number (g + 1) f z) at without
+      lines-wrong = item-wrong number kind (g + 1) anyLine K O G later whole h bytes at line s (d .next) f (d .same) p
 
       pub lines-end : length f ≤ 0 → ItemsDone at line (g + 1) s (Passed at line)
-      unfolding thenJudge
       lines-end z = record {
         next = next-item h kind (g + 1) bytes at line s (d .next) p;
         past = d .past;
-        same = rw (end-right anyLine K O G number (g + 1) f z) at without;
+        same = item-right number kind (g + 1) anyLine K O G later whole h bytes at line s (d .next) f (d .same) p z;
         told = refl;
       }
 

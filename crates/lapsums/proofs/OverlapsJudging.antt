@@ -21,14 +21,13 @@ use Rattle.overlapwords.specs.OverlapPlaces.{cursorOf, seenOverlaps}
 use Rattle.overlapwords.proofs.OverlapWalk.{seen-one, seen-none, count-none}
 use Rattle.package.specs.Names.{sumO}
 use Rattle.package.specs.Sums.{SumLine, ofs}
-use Rattle.acceptance.specs.Content.{sumOf}
-use Rattle.acceptance.specs.Check.{Verdict, refusal, fine, thenJudge, less, isUnder, sumVerdict, overlapsJudged, itemsJudged}
-use Rattle.acceptance.proofs.LinesTaken.{less-fails, less-over, less-more, end-right, end-wrong}
+use Rattle.acceptance.specs.Check.{Verdict, refusal, fine, isUnder, overlapsJudged, itemsJudged}
 use Rattle.sumlines.specs.declared.SumAt.{SumAt}
 use Rattle.sumlines.specs.Lines.{sumsAt, heldLine, heldFrom, NumberedFrom, firstIs, Inside, takenLine, LineFits}
 use Rattle.sumlines.proofs.AboveCount.{above-low, items-later}
 use Rattle.sumorder.proofs.LineOrder.{overlaps-skip}
-use Rattle.sumorder.proofs.NextLine.{NextLine, next-line, lines-are, its-kind, its-sum, next-fits, next-reached, no-line-left, next-item}
+use Rattle.sumorder.proofs.NextLine.{NextLine, next-line, lines-are, its-kind, next-fits, next-reached, next-item}
+use Rattle.sumorder.proofs.ItemJudging.{itemThen, line-fails, line-over, line-more, item-wrong, item-right}
 use Rattle.table.specs.Table.{primeIn, gensIn, basisCountIn, fieldIn, orderIn}
 use Rattle.table.specs.Polynomials.{basisIn}
 use Rattle.tablesums.specs.declared.Sizes.{Sizes}
@@ -58,8 +57,7 @@ module _ (t bytes : List ℕ) (ws : List Word) (whole : Verdict) (total : ℕ) (
   -- the same with f, number i + 1, whose sum has come to g
   abbrev fromLines : List SumLine → OverlapAt → ℕ → Poly → Verdict
   fromLines ss f i g =
-      thenJudge (sumVerdict 13 (i + 1) (less (isUnder O G (overlapWord G (overlapOf (cursorOf f)))) K O G g (sumOf sumO (i + 1) ss)))
-      (laterOverlaps ss f i)
+      itemThen 13 sumO (i + 1) (isUnder O G (overlapWord G (overlapOf (cursorOf f)))) K O G (λ (ss : List SumLine). laterOverlaps ss f i) ss g
 
   -- The first i overlaps passed, f is the next, and s is the next line.
   pub record OverlapsDone (at line i : ℕ) (f : OverlapAt) (s : SumAt) (answer : LapsAnswer) : Type 0 where
@@ -103,6 +101,9 @@ module _ (t bytes : List ℕ) (ws : List Word) (whole : Verdict) (total : ℕ) (
     abbrev test : Line → Bool
     test = isUnder O G (overlapWord G (overlapOf (cursorOf f)))
 
+    abbrev later : List SumLine → Verdict
+    later ss = laterOverlaps ss f i
+
     module _ (p : firstIs sumO (i + 1) (heldFrom bytes line s) ≡ true) where
       abbrev x : SumLine
       x = heldLine bytes line s
@@ -139,53 +140,40 @@ module _ (t bytes : List ℕ) (ws : List Word) (whole : Verdict) (total : ℕ) (
             ∙ without-basis t g (s .coef) z left right (s .of) (line-names .0) (line-names .1)
             ∙ ap (takeAway K O G g) (line-packed t bytes s z left right l r)
 
-      with-line : thenJudge (sumVerdict 13 (i + 1) (less test K O G g (x ∷ sumOf sumO (i + 1) ss))) (laterOverlaps (x ∷ ss) f i) ≡ whole
-      with-line = rw (its-sum (headIn t) sumO (i + 1) bytes at line s (d .next) p) at (rw here at (d .same))
-
       pub lap-not : test (takenLine bytes s) ≡ false → refusal 14 line ≡ whole
-      unfolding thenJudge sumVerdict
-      lap-not e = rw (less-fails test K O G g x (sumOf sumO (i + 1) ss) e) at with-line
+      lap-not = line-fails 13 sumO (i + 1) test K O G later whole (headIn t) bytes at line s (d .next) g (d .same) p
 
       -- the line passes the test, and leaves g′, of n terms
       module _ (e : test (takenLine bytes s) ≡ true) (g′ : Poly) (q : g′ ≡ takeAway K O G g (takenLine bytes s)) (n : ℕ) (size : length g′ ≡ n) where
         pub lap-over : 512 < n → refusal 10 line ≡ whole
-        unfolding thenJudge sumVerdict
-        lap-over l =
-            let few = ap length q in
-            rw (less-over test K O G g x (sumOf sumO (i + 1) ss) e (omega arith)) at with-line
+        lap-over l = line-over 13 sumO (i + 1) test K O G later whole (headIn t) bytes at line s (d .next) g (d .same) p e g′ q (omega arith)
 
         pub lap-next : n ≤ 512 → (s′ : SumAt) → (s′ .present ≡ true → Inside bytes (s .next) s′)
             → ((n : ℕ) → NumberedFrom n (sumsAt bytes (s .next) n) → heldFrom bytes n s′ ≡ sumsAt bytes (s .next) n)
             → LapDone (s .next) (line + 1) i f g′ s′
         lap-next l s′ y u =
-            let few = ap length q in
             let most = d .numbered in
             let k = its-kind (headIn t) sumO (i + 1) bytes at line s (d .next) p .1 in
             let low : itemsJudged total (x ∷ ss) ≡ itemsJudged total ss = items-later total x ss (above-low total (s .kind) (s .item) (omega arith)) in
-            let skip : laterOverlaps (x ∷ ss) f i ≡ laterOverlaps ss f i =
+            let skip : later (x ∷ ss) ≡ later ss =
             overlaps-skip K O G x ss (overlapsAt ws (behind (cursorOf f))) (i + 1 + 1) (λ r. omega arith) in
             record {
               next = next-line (headIn t) sumO (i + 1) bytes (s .next) (line + 1) s′
                   (next-reached (headIn t) sumO (i + 1) bytes at line s (d .next) p) y u;
-              same = rw (q, add-one line) (rw (less-more test K O G g x (sumOf sumO (i + 1) ss) e (omega arith), skip) at with-line);
+              same = line-more 13 sumO (i + 1) test K O G later whole (headIn t) bytes at line s (d .next) g (d .same) p e g′ q (omega arith) skip;
               numbered = d .numbered;
               below = rw (add-one line) (sym low ∙ rw here at (d .below));
             }
 
     module _ (p : firstIs sumO (i + 1) (heldFrom bytes line s) ≡ false) where
-      without : thenJudge (sumVerdict 13 (i + 1) (less test K O G g [])) (laterOverlaps (sumsAt bytes at line) f i) ≡ whole
-      without = rw (no-line-left (headIn t) sumO (i + 1) bytes at line s (d .next) p) at (d .same)
-
       pub lap-wrong : (n : ℕ) → length g ≡ n → 0 < n → refusal 13 (i + 1) ≡ whole
-      unfolding thenJudge
-      lap-wrong n size z = rw (end-wrong test K O G 13 (i + 1) g (omega arith)) at without
+      lap-wrong n size z = item-wrong 13 sumO (i + 1) test K O G later whole (headIn t) bytes at line s (d .next) g (d .same) p (omega arith)
 
       pub lap-end : (n : ℕ) → length g ≡ n → n ≤ 0 → (f′ : OverlapAt) → seenOverlaps ws f′ ≡ overlapsAt ws (behind (cursorOf f))
           → OverlapsDone at line (i + 1) f′ s (Through (i + 1) (s .present))
-      unfolding thenJudge
       lap-end n size z f′ y = record {
         next = next-item (headIn t) sumO (i + 1) bytes at line s (d .next) p;
-        same = rw y (rw (end-right test K O G 13 (i + 1) g (omega arith)) at without);
+        same = rw y (item-right 13 sumO (i + 1) test K O G later whole (headIn t) bytes at line s (d .next) g (d .same) p (omega arith));
         numbered = rw y (d .numbered);
         below = d .below;
         told = refl;

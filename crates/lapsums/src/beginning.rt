@@ -3,8 +3,8 @@
 use crate::LapStart;
 use overlapwords::OverlapAt;
 use table::Table;
+use tablesums::factors::cut_factors;
 use tablesums::factors::overlap_word;
-use tablesums::factors::pack_factors;
 use tablesums::starting::start_difference;
 ghost use mathlib.Core.Path.{_≡_};
 ghost use Prim.Native.Nat.{_≤_};
@@ -14,20 +14,17 @@ ghost use Rattle.algebra.specs.Written.{written};
 ghost use Rattle.working.specs.Working.{Arranged};
 ghost use Rattle.overlaps.specs.Overlaps.{overlapWord, difference};
 ghost use Rattle.overlaps.specs.Position.{overlapOf};
-ghost use Rattle.overlapwords.specs.OverlapPlaces.{cursorOf, Overlapped};
+ghost use Rattle.overlapwords.specs.OverlapPlaces.{cursorOf};
 ghost use Rattle.table.specs.Polynomials.{basisIn};
-ghost use Rattle.table.specs.Table.{fieldIn, orderIn, basisCountIn};
+ghost use Rattle.table.specs.Table.{fieldIn, orderIn};
 ghost use Rattle.table.specs.Tabled.{Tabled};
 ghost use Rattle.table.specs.Words.{wordOf, Built};
 ghost use Rattle.packedterms.specs.Formula.{formula, Room, Working};
-ghost use Rattle.tablesums.specs.Leading.{HeadsIn};
+ghost use Rattle.tablesums.specs.Factors.{Lapping};
 
 // The overlap word of f is built in lap, and its difference becomes the working formula.
 pub fn start_lap(
     t: &Table,
-    heads: &[usize],
-    headlens: &[usize],
-    bytes: &[u8],
     f: OverlapAt,
     lap: &mut [u64; 9],
     c: &mut [u32; 560],
@@ -35,8 +32,7 @@ pub fn start_lap(
     w: &mut [u64; 3360],
     o: &mut [u16; 560],
 ) -> LapStart
-    requires { ⌜ Tabled (now t) × HeadsIn (now t) (now heads) (now headlens) (now bytes) ⌝ }
-    requires { ⌜ Overlapped (now headlens) (basisCountIn (now t)) f × (length (now lap) ≡ 9) ⌝ }
+    requires { ⌜ Tabled (now t) × Lapping (now t) f × (length (now lap) ≡ 9) ⌝ }
     requires { ⌜ Arranged (now o) × Room (now c) (now l) (now w) (now o) ⌝ }
     ensures { λ r. ⌜ (r .terms ≤ 96) × Built (now (t .entry)) (r .size) (now (lap .exit)) ⌝ }
     ensures { λ r. ⌜
@@ -52,7 +48,7 @@ pub fn start_lap(
     let mut left = [0u64; 6];
     let mut right = [0u64; 6];
     let mut buf = [0u64; 9];
-    let z = pack_factors(t, f, heads, headlens, bytes, &mut left, &mut right);
+    let z = cut_factors(t, f, &mut left, &mut right);
     let e = overlap_word(t, f, &right, z.right, lap);
     let n = start_difference(t, f, z, &left, &right, c, l, w, o, &mut buf);
     LapStart { terms: n, size: e }

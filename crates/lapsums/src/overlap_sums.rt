@@ -73,7 +73,7 @@ pub fn judge_overlaps(
     let mut f = first_overlap(heads, headlens, bytes, count);
     'items: while f.present {
         let item = i + 1;
-        let x = start_lap(t, heads, headlens, bytes, f, &mut lap, c, l, w, o);
+        let x = start_lap(t, f, &mut lap, c, l, w, o);
         let mut n = x.terms;
         while is_item(s, 3, item) {
             let z = pack_sides(t, bytes, s, &mut left, &mut right);

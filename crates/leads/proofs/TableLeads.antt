@@ -13,7 +13,7 @@ use Rattle.algebra.specs.Ideal.{family}
 use Rattle.working.specs.Working.{terms}
 use Rattle.packedwords.specs.Packed.{Codes, Nonzero, unpacked}
 use Rattle.packedwords.proofs.Packing.{unpacked-length, unpacked-codes}
-use Rattle.table.specs.Table.{gensIn, basisCountIn, itemsIn, termsIn, firstIn, sizeIn, blocksIn}
+use Rattle.table.specs.Table.{gensIn, basisCountIn, termsIn, firstIn, sizeIn, blocksIn}
 use Rattle.table.specs.Polynomials.{termIn, polynomialIn, basisIn}
 use Rattle.table.specs.Tabled.{Tabled}
 use Rattle.table.proofs.Families.{polynomials-count, family-basis}

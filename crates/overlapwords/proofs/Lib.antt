@@ -1,2 +1,2 @@
 pub mod OverlapWalk
-pub mod OverlapTexts
+pub mod OverlapDifference

@@ -14,8 +14,7 @@ use Rattle.table.specs.Words.{wordOf, Sixfold}
 use Rattle.table.specs.Polynomials.{basisIn}
 use Rattle.table.specs.Tabled.{Tabled}
 use Rattle.packedsteps.specs.Cuts.{CutAt}
-use Rattle.packedsteps.proofs.EvenSizes.{even-size, even-held}
-use Rattle.table.proofs.WordSizes.{word-size}
+use Rattle.table.proofs.WordSizes.{word-size, even-size, even-held}
 use Rattle.table.proofs.LeadingTerms.{LeadTerm, lead-term}
 
 -- The numbers of a cut: the leading word's letters and those of the whole, and their sizes.

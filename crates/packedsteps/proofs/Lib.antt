@@ -5,7 +5,6 @@ mod NotLonger
 mod TermsBefore
 mod RunTurns
 pub mod ShortWords
-mod EvenSizes
 mod CutWords
 mod StepLaws
 mod NoneFound

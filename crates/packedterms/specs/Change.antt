@@ -7,12 +7,16 @@ use lib.ListN.{getD, set, take}
 use lib.Seq.{sets}
 use Rattle.working.specs.Rotation.{Moved, rotatedRight, rotatedLeft}
 
+-- At place s there are now the coefficient x, the size e and the blocks bs.
+pub record Stored (c l w : List ℕ) (s x e : ℕ) (bs c' l' w' : List ℕ) : Type 0 where
+  pub coefs : c' ≡ set c s x
+  pub sizes : l' ≡ set l s e
+  pub blocks : w' ≡ sets w (s * 6) bs
+
 -- At the place that entry n of o names there are now the coefficient x, the size e and the first six blocks of v; the entry went to k, and those
 -- from k on one to the right.
 pub record PutBefore (c l w o : List ℕ) (n k x : ℕ) (v : List ℕ) (e : ℕ) (c' l' w' o' : List ℕ) : Type 0 where
-  pub coefs : c' ≡ set c (getD o n 0) x
-  pub sizes : l' ≡ set l (getD o n 0) e
-  pub blocks : w' ≡ sets w (getD o n 0 * 6) (take 6 v)
+  pub stored : Stored c l w (getD o n 0) x e (take 6 v) c' l' w'
   pub entries : Moved (rotatedRight k n) o o'
 
 -- The coefficient of term k of n became y, and r terms are left: where y is 0 the term's entry went behind the others, else y was stored.

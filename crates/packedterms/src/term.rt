@@ -9,14 +9,37 @@ use working::entries::rotate_left;
 use working::entries::rotate_right;
 ghost use mathlib.Core.Path.{_≡_};
 ghost use Prim.Native.Nat.{_+_, _≤_, _<_};
-ghost use lib.ListN.{length, getD};
+ghost use lib.ListN.{length, getD, take};
 ghost use Rattle.algebra.specs.Written.{insert};
 ghost use Rattle.working.specs.Change.{single};
 ghost use Rattle.table.specs.Table.{primeIn, fieldIn, orderIn};
 ghost use Rattle.table.specs.Tabled.{Tabled};
 ghost use Rattle.table.specs.Words.{wordOf, Built};
-ghost use Rattle.packedterms.specs.Change.{PutBefore, AddedOnto};
+ghost use Rattle.packedterms.specs.Change.{Stored, PutBefore, AddedOnto};
 ghost use Rattle.packedterms.specs.Formula.{formula, Holds, Working};
+
+// Stores a term at the place that entry n of o names: the coefficient x, and the word of size e in the first six blocks of v.
+pub fn put_last(
+    x: u32,
+    v: &[u64],
+    e: usize,
+    c: &mut [u32; 560],
+    l: &mut [u32; 560],
+    w: &mut [u64; 3360],
+    o: &[u16; 560],
+    n: usize,
+)
+    requires { ⌜ (n < 560) × (e < 4294967296) × (getD (now o) n 0 < 560) × (6 ≤ length (now v)) × (length (now w) ≡ 3360) ⌝ }
+    ensures { λ _. ⌜
+        Stored (now (c .entry)) (now (l .entry)) (now (w .entry)) (getD (now (o .entry)) n 0) x e (take 6 (now (v .entry)))
+        (now (c .exit)) (now (l .exit)) (now (w .exit))
+        ⌝ }
+{
+    let s = o[n] as usize;
+    c[s] = x;
+    l[s] = e as u32;
+    copy_place(w, s * 6, v);
+}
 
 // Stores a term at the place that entry n of o names, and moves this entry to k: the coefficient x, and the word of size e in v.
 pub fn put_before(
@@ -37,10 +60,7 @@ pub fn put_before(
         (now (c .exit)) (now (l .exit)) (now (w .exit)) (now (o .exit))
         ⌝ }
 {
-    let s = o[n] as usize;
-    c[s] = x;
-    l[s] = e as u32;
-    copy_place(w, s * 6, v);
+    put_last(x, v, e, c, l, w, o, n);
     rotate_right(o, k, n);
 }
 

@@ -1,4 +1,3 @@
 -- Laws of this crate's functions; no other crate cites them.
-mod Loaded
 mod Texts
 mod BlockTexts

@@ -1,7 +1,6 @@
 // A formula that was read, brought into the packed working arrays.
 
-use packedterms::term::put_before;
-use packing::product::begin;
+use packedterms::term::put_last;
 use table::Table;
 use wordpacking::pack::pack_word;
 use working::formula::start;
@@ -30,23 +29,21 @@ fn append_term(
     c: &mut [u32; 560],
     l: &mut [u32; 560],
     w: &mut [u64; 3360],
-    o: &mut [u16; 560],
+    o: &[u16; 560],
     n: usize,
 )
     requires { ⌜ Keys (now t) × (from + e ≤ length (now text)) × (e ≤ 72) × All (Letter 26) (take e (drop from (now text))) ⌝ }
     requires { ⌜ Holds (now t) (now c) (now l) (now w) (now o) n × (n < 560) ⌝ }
-    ensures { λ _. ⌜ Holds (now (t .entry)) (now (c .exit)) (now (l .exit)) (now (w .exit)) (now (o .exit)) (n + 1) ⌝ }
+    ensures { λ _. ⌜ Holds (now (t .entry)) (now (c .exit)) (now (l .exit)) (now (w .exit)) (now (o .entry)) (n + 1) ⌝ }
     ensures { λ _. ⌜
-        formula (now (t .entry)) (now (c .exit)) (now (l .exit)) (now (w .exit)) (now (o .exit)) (n + 1)
+        formula (now (t .entry)) (now (c .exit)) (now (l .exit)) (now (w .exit)) (now (o .entry)) (n + 1)
         ≡ formula (now (t .entry)) (now (c .entry)) (now (l .entry)) (now (w .entry)) (now (o .entry)) n
         ++ (single x (take e (drop from (now (text .entry)))) ∷ [])
         ⌝ }
 {
     let mut word = [0u64; 6];
-    let mut room = [0u64; 9];
     let size = pack_word(t, text, from, e, &mut word);
-    begin(&mut room, &word);
-    put_before(x, &room, size, c, l, w, o, n, n);
+    put_last(x, &word, size, c, l, w, o, n);
 }
 
 // The formula lies in a text: coefficients fc, and words of fl letters from fs on. Whatever the arrays held, they then hold it, and the answer is how

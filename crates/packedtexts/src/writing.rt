@@ -9,7 +9,7 @@ use textwriting::write::put_bytes;
 use textwriting::write::put_number;
 ghost use mathlib.Core.Path.{_≡_};
 ghost use mathlib.Core.List.{List, [], _∷_, map};
-ghost use Prim.Native.Nat.{ℕ, _+_, _≤_, _<_, min};
+ghost use Prim.Native.Nat.{ℕ, _+_, _≤_, _<_};
 ghost use lib.ListN.{length};
 ghost use lib.Seq.{sets};
 ghost use Rattle.text.specs.Word.{writeWord};
@@ -69,17 +69,7 @@ fn put_block(t: &Table, out: &mut [u8], at: usize, x: u64, r: usize)
     }
 }
 
-// The lesser of a number and 12.
-fn at_most_twelve(n: usize) -> usize
-    ensures { λ r. ⌜ r ≡ min 12 n ⌝ }
-{
-    if n < 12 {
-        return n;
-    }
-    12
-}
-
-// The m letters of the word at place s, written to out from the place at on.
+// The m letters of the word at place s, written to out from the place at on: whole blocks, of twelve letters each, and then what is left.
 fn put_letters(t: &Table, out: &mut [u8], at: usize, w: &[u64; 3360], s: usize, m: usize)
     requires { ⌜ (s < 560) × (length (now w) ≡ 3360) × Packs m (blocksAt (now w) s) × (at + m ≤ length (now out)) ⌝ }
     ensures { λ _. ⌜
@@ -88,11 +78,15 @@ fn put_letters(t: &Table, out: &mut [u8], at: usize, w: &[u64; 3360], s: usize, 
 {
     let mut j = 0;
     let mut i = 0;
-    while i < m {
-        put_block(t, out, at + i, w[s * 6 + j], at_most_twelve(m - i));
+    while i + 12 <= m {
+        put_block(t, out, at + i, w[s * 6 + j], 12);
         j += 1;
         i += 12;
     }
+    if m <= i {
+        return;
+    }
+    put_block(t, out, at + i, w[s * 6 + j], m - i);
 }
 
 // The word of m letters at place s, written to out from the place at on: `-` for the empty word. The answer is the place behind it.

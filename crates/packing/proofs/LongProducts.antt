@@ -1,13 +1,13 @@
--- A word put behind another 24 letters at a time.
+-- A word put behind another 24 letters at a time, or none.
 use mathlib.Core.Path.{_≡_, sym, _∙_, ap, ap₂}
 use mathlib.Core.Logic.{_⊎_, inl, inr}
-use mathlib.Core.List.{List, _++_, append-assoc}
+use mathlib.Core.List.{List, _++_, append-nil, append-assoc}
 use Prim.Native.Nat.{ℕ, _+_, _*_, _≤_}
 use native.Mathlib.Omega.{arith}
 use lib.ListN.{length, take, drop, length-take, length-drop}
 use lib.Seq.{take-add}
-use Rattle.words.specs.Word.{Word}
-use Rattle.packedwords.specs.Packed.{unpacked, Packs}
+use Rattle.words.specs.Word.{Word, around}
+use Rattle.packedwords.specs.Packed.{unpackedFrom, unpacked, Packs}
 use Rattle.packedwords.proofs.Packing.{unpacked-length}
 use Rattle.packedwords.proofs.Parts.{packs-part}
 
@@ -31,3 +31,12 @@ long-more u v j x y z p q r =
     ∙ ap₂ (λ (s t : Word). s ++ t) p r
     ∙ append-assoc u (take (12 * j) v) (take 24 (drop (12 * j) v))
     ∙ ap (λ (s : Word). u ++ s) (sym (take-add (12 * j) 24 v) ∙ ap (λ (k : ℕ). take k v) e)
+
+-- No letters put behind a word leave it.
+pub append-none : (w : Word) (n : ℕ) (bs : List ℕ) → n ≡ 0 → w ++ unpacked n bs ≡ w
+unfolding unpackedFrom
+append-none w n bs e = ap (λ (k : ℕ). w ++ unpacked k bs) e ∙ append-nil w
+
+-- A word put behind the product of two others makes the product of the three.
+pub product-of-three : (l w r x y : Word) → x ≡ l ++ w → y ≡ x ++ r → y ≡ around l r w
+product-of-three l w r x y p q = q ∙ ap (λ (s : Word). s ++ r) p ∙ append-assoc l w r

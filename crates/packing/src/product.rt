@@ -5,7 +5,7 @@ use crate::block::down;
 use crate::block::up;
 ghost use mathlib.Core.Path.{_≡_};
 ghost use mathlib.Core.List.{_++_};
-ghost use Prim.Native.Nat.{_+_, _≤_};
+ghost use Prim.Native.Nat.{_+_, _≤_, _<_};
 ghost use lib.ListN.{length, take, drop, replicate};
 ghost use lib.Seq.{sets};
 ghost use Rattle.words.specs.Word.{around};
@@ -80,6 +80,60 @@ pub fn append_long(dst: &mut [u64; 9], m: usize, src: &[u64; 6], n: usize) -> us
     append(dst, e, src, j, left)
 }
 
+// As `begin_with`, where left has fewer than twelve letters: they are all in its first block, so the product's blocks are made without reading dst.
+fn begin_short(
+    dst: &mut [u64; 9],
+    left: &[u64; 6],
+    a: usize,
+    word: &[u64],
+    from: usize,
+    n: usize,
+) -> usize
+    requires { ⌜ (a < 12) × (n ≤ 24) × (length (now dst) ≡ 9) × (from + 2 ≤ length (now word)) ⌝ }
+    requires { ⌜ Packs a (now left) × Packs n (take 2 (drop from (now word))) ⌝ }
+    ensures { λ r. ⌜ (r ≡ a + n) × (length (now (dst .exit)) ≡ 9) × Packs r (now (dst .exit)) ⌝ }
+    ensures { λ r. ⌜ unpacked r (now (dst .exit)) ≡ unpacked a (now (left .entry)) ++ unpacked n (take 2 (drop from (now (word .entry)))) ⌝ }
+{
+    let s = a * 5;
+    let t = 60 - a * 5;
+    let x = word[from];
+    let y = word[from + 1];
+    let first = left[0] + down(x, s);
+    let second = up(x, t) + down(y, s);
+    let third = up(y, t);
+    dst[0] = first;
+    dst[1] = second;
+    dst[2] = third;
+    dst[3] = 0;
+    dst[4] = 0;
+    dst[5] = 0;
+    dst[6] = 0;
+    dst[7] = 0;
+    dst[8] = 0;
+    a + n
+}
+
+// Makes left × word in dst: the a letters in left, and the n letters in two blocks of word from block `from` on. The answer is a + n.
+fn begin_with(
+    dst: &mut [u64; 9],
+    left: &[u64; 6],
+    a: usize,
+    word: &[u64],
+    from: usize,
+    n: usize,
+) -> usize
+    requires { ⌜ (a + n ≤ 72) × (n ≤ 24) × (length (now dst) ≡ 9) × (length (now left) ≡ 6) × (from + 2 ≤ length (now word)) ⌝ }
+    requires { ⌜ Packs a (now left) × Packs n (take 2 (drop from (now word))) ⌝ }
+    ensures { λ r. ⌜ (r ≡ a + n) × (length (now (dst .exit)) ≡ 9) × Packs r (now (dst .exit)) ⌝ }
+    ensures { λ r. ⌜ unpacked r (now (dst .exit)) ≡ unpacked a (now (left .entry)) ++ unpacked n (take 2 (drop from (now (word .entry)))) ⌝ }
+{
+    if a < 12 {
+        return begin_short(dst, left, a, word, from, n);
+    }
+    begin(dst, left);
+    append(dst, a, word, from, n)
+}
+
 // Makes left × word × right in dst: the a letters in left, the n letters in two blocks of word from block `from` on, and the b letters in right.
 // The answer is how many letters the product has.
 pub fn compose(
@@ -101,7 +155,12 @@ pub fn compose(
         ≡ around (unpacked a (now (left .entry))) (unpacked b (now (right .entry))) (unpacked n (take 2 (drop from (now (word .entry)))))
         ⌝ }
 {
-    begin(dst, left);
-    let e = append(dst, a, word, from, n);
+    let e = begin_with(dst, left, a, word, from, n);
+    if b == 0 {
+        return e;
+    }
+    if b <= 24 {
+        return append(dst, e, right, 0, b);
+    }
     append_long(dst, e, right, b)
 }

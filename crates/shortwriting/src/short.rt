@@ -5,7 +5,6 @@ use packedtexts::writing::write_text;
 use services::Shortened;
 use table::Table;
 ghost use mathlib.Core.Path.{_≡_};
-ghost use Prim.Native.Nat.{_≤_};
 ghost use lib.ListN.{length};
 ghost use Rattle.package.specs.Writing.{writeFormula};
 ghost use Rattle.acceptance.specs.Reduction.{shortForm};

@@ -3,15 +3,15 @@ use mathlib.Core.Path.{_≡_, refl, sym, ap, _∙_}
 use mathlib.Core.Bool.{Bool, true, false}
 use mathlib.Core.Logic.{_≢_}
 use mathlib.Core.List.{List, [], _∷_}
-use Prim.Native.Nat.{ℕ, zero, suc, _+_, _≤_, _<_}
+use Prim.Native.Nat.{ℕ, suc, _+_, _≤_}
 use native.Mathlib.Numerals.{add-one}
 use native.Mathlib.Omega.{arith}
 use lib.Dec.{eqb, ltb}
 use lib.ListN.{length}
 use borrow.Author.Tests.{eq-eqb, ne-eqb, le-ltb}
 use Rattle.package.specs.Names.{sumO}
-use Rattle.package.specs.Sums.{SumLine, sumsOf}
-use Rattle.acceptance.specs.Check.{Verdict, refusal, fine, itemsJudged}
+use Rattle.package.specs.Sums.{SumLine}
+use Rattle.acceptance.specs.Check.{Verdict, refusal, itemsJudged}
 use Rattle.sumlines.specs.declared.SumAt.{SumAt}
 use Rattle.basis.specs.Told.{told}
 use Rattle.sumlines.specs.Lines.{sumsAt, heldLine, heldFrom, NumberedFrom, aboveCount, Counted, uncounted, counted, Inside}

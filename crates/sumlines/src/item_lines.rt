@@ -3,11 +3,9 @@
 use crate::SumAt;
 use crate::sum_line::line_at;
 ghost use mathlib.Core.Path.{_≡_};
-ghost use Prim.Native.Nat.{ℕ, _+_, _≤_};
+ghost use Prim.Native.Nat.{_+_, _≤_};
 ghost use lib.ListN.{length};
 ghost use Rattle.acceptance.specs.Check.{itemsJudged};
-ghost use Rattle.package.specs.Readable.{SumsInOrder};
-ghost use Rattle.package.specs.Package.{packageLimits};
 ghost use Rattle.basis.specs.Told.{told};
 ghost use Rattle.sumlines.specs.Lines.{sumsAt, aboveCount, Counted};
 

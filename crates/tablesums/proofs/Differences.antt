@@ -11,7 +11,7 @@ use Rattle.overlaps.specs.Overlaps.{difference}
 use Rattle.overlaps.specs.Position.{overlapOf}
 use Rattle.overlapwords.specs.declared.OverlapAt.{OverlapAt}
 use Rattle.overlapwords.specs.OverlapPlaces.{cursorOf}
-use Rattle.overlapwords.proofs.OverlapTexts.{product-written, difference-held}
+use Rattle.overlapwords.proofs.OverlapDifference.{product-written, difference-held}
 use Rattle.table.specs.Polynomials.{polynomialIn, basisIn}
 use Rattle.table.specs.Table.{fieldIn, orderIn, gensIn, basisCountIn}
 use Rattle.table.specs.Tabled.{Tabled}

@@ -1,7 +1,7 @@
 -- The leading words of the basis as they are laid in the bytes.
 use mathlib.Core.Path.{_≡_, refl, sym, ap, _∙_}
 use mathlib.Core.List.{List, []}
-use Prim.Native.Nat.{ℕ, suc, _<_}
+use Prim.Native.Nat.{ℕ, suc, _≤_, _<_}
 use native.Mathlib.Omega.{arith}
 use lib.ListN.{length, getD}
 use Rattle.words.specs.Word.{Word}
@@ -16,6 +16,7 @@ use Rattle.overlapwords.specs.OverlapPlaces.{Overlapped}
 use Rattle.table.specs.Polynomials.{basisIn}
 use Rattle.table.specs.Table.{basisCountIn}
 use Rattle.tablesums.specs.Leading.{leadIn, Leads, HeadsIn}
+use Rattle.tablesums.specs.Factors.{Lapping}
 
 no-letters : length (lead []) ≡ 0
 unfolding lead
@@ -35,6 +36,16 @@ module _ {t heads headlens bytes : List ℕ} (h : HeadsIn t heads headlens bytes
           sym (laid-word-length heads headlens bytes (basisCountIn t) (h .laid) g l)
           ∙ ap length (sym (lead-laid g l)) ∙ ap (λ (f : Poly). length (lead f)) z ∙ no-letters
 
-  -- so the first polynomial of an overlap does
-  pub first-leads : (f : OverlapAt) → Overlapped headlens (basisCountIn t) f → Leads t (suc (f .first))
-  first-leads f v = let q = v .below-first in lead-some (f .first) (v .first) (omega arith)
+  shared-in : (g n : ℕ) → g < basisCountIn t → n < getD headlens g 0 → n ≤ length (leadIn t (suc g))
+  shared-in g n l q =
+      let e = ap length (lead-laid g l) ∙ laid-word-length heads headlens bytes (basisCountIn t) (h .laid) g l in
+      omega arith
+
+  -- so the two polynomials of an overlap do
+  pub lapping : (f : OverlapAt) → Overlapped headlens (basisCountIn t) f → Lapping t f
+  lapping f v = record {
+    first = let q = v .below-first in lead-some (f .first) (v .first) (omega arith);
+    second = let q = v .below-second in lead-some (f .second) (v .second) (omega arith);
+    shared-first = shared-in (f .first) (f .shared) (v .first) (v .below-first);
+    shared-second = shared-in (f .second) (f .shared) (v .second) (v .below-second);
+  }

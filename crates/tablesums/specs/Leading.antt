@@ -2,10 +2,9 @@
 use mathlib.Core.Path.{_≡_}
 use mathlib.Core.Logic.{_≢_}
 use mathlib.Core.List.{List, []}
-use Prim.Native.Nat.{ℕ, _≤_, _<_}
-use Rattle.lists.specs.All.{All}
-use Rattle.words.specs.Word.{Word, Letter}
-use Rattle.words.specs.Laid.{laidWord, laidWords, Laid}
+use Prim.Native.Nat.{ℕ, _≤_}
+use Rattle.words.specs.Word.{Word}
+use Rattle.words.specs.Laid.{laidWords, Laid}
 use Rattle.algebra.specs.Ideal.{family}
 use Rattle.algebra.specs.Groebner.{lead}
 use Rattle.overlaps.specs.Overlaps.{leads}
@@ -22,8 +21,7 @@ pub record Leads (t : List ℕ) (g : ℕ) : Type 0 where
   pub most : g ≤ basisCountIn t
   pub nonzero : family (basisIn t) g ≢ []
 
--- The words that heads and headlens lay in the bytes are the leading words of the basis, in the letters `a` to `z`.
+-- The words that heads and headlens lay in the bytes are the leading words of the basis.
 pub record HeadsIn (t heads headlens bytes : List ℕ) : Type 0 where
   pub laid : Laid heads headlens bytes (basisCountIn t)
   pub leading : laidWords heads headlens bytes (basisCountIn t) ≡ leads (basisIn t)
-  pub letters : (g : ℕ) → g < basisCountIn t → All (Letter 26) (laidWord heads headlens bytes g)

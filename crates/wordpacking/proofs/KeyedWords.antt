@@ -6,7 +6,6 @@ use native.Mathlib.Nat.{mod-lt}
 use native.Mathlib.Omega.{arith}
 use lib.ListN.{length, take, drop, length-map}
 use Rattle.lists.specs.All.{All, done, _also_}
-use Rattle.lists.proofs.Every.{all-map}
 use Rattle.lists.proofs.Parts.{part-length}
 use Rattle.words.specs.Word.{Word, Letter}
 use Rattle.words.specs.Weighted.{weight}
@@ -14,7 +13,7 @@ use Rattle.packedwords.specs.Packed.{Codes, Nonzero, packed, unpacked}
 use Rattle.packedwords.proofs.Packing.{packed-length, unpacked-packed, packed-packs}
 use Rattle.table.specs.Table.{keyIn, codeIn, keyWeightIn, letterIn, weightIn}
 use Rattle.table.specs.Words.{Keys, Held, Sixfold, wordOf}
-use Rattle.wordpacking.proofs.Weights.{weight-most}
+use Rattle.table.proofs.WordSizes.{even-weight}
 
 -- The codes of a word.
 abbrev pub codesIn : List ℕ → Word → Word
@@ -48,51 +47,48 @@ module _ (t : List ℕ) (keys : Keys t) where
   codes-nonzero (a ∷ w) (p also ps) zero h = keys .keyed a p .some
   codes-nonzero (a ∷ w) (p also ps) (suc i) h = codes-nonzero w ps i (omega arith)
 
-  letter-light : (a : ℕ) → Letter 26 a → keyWeightIn t a ≤ 65535
-  letter-light a p = omega (arith, keys .keyed a p .weighed, keys .light (codeIn t a) (code-low t a))
+  -- each letter weighs 1
+  letters-weight : (w : Word) → All (Letter 26) w → weight (keyWeightIn t) w ≡ length w
+  letters-weight w letters = sym (codes-weight w letters) ∙ even-weight t keys (codesIn t w) (codes-low t w) ∙ length-map w (codeIn t)
 
-  module _ (w : Word) (letters : All (Letter 26) w) where
-    word-light : weight (keyWeightIn t) w ≤ 65535 * length w
-    word-light = weight-most (keyWeightIn t) 65535 w (all-map letter-light letters)
+  module _ (w : Word) (letters : All (Letter 26) w) (few : length w ≤ 72) where
+    pub size-low : sizeOf t w < 4294967296
+    size-low = omega (arith, letters-weight w letters)
 
-    module _ (few : length w ≤ 72) where
-      pub size-low : sizeOf t w < 4294967296
-      size-low = omega (arith, word-light)
+    pub size-letters : sizeOf t w % 256 ≡ length w
+    size-letters = omega arith
 
-      pub size-letters : sizeOf t w % 256 ≡ length w
-      size-letters = omega arith
+    size-weight : sizeOf t w / 256 ≡ weight (keyWeightIn t) w
+    size-weight = omega arith
 
-      size-weight : sizeOf t w / 256 ≡ weight (keyWeightIn t) w
-      size-weight = omega arith
+    module _ (k : ℕ) (room : length w ≤ 12 * k) where
+      code-count : length (codesIn t w) ≡ length w
+      code-count = length-map w (codeIn t)
 
-      module _ (k : ℕ) (room : length w ≤ 12 * k) where
-        code-count : length (codesIn t w) ≡ length w
-        code-count = length-map w (codeIn t)
+      codes-fit : length (codesIn t w) ≤ 12 * k
+      codes-fit = omega (arith, code-count)
 
-        codes-fit : length (codesIn t w) ≤ 12 * k
-        codes-fit = omega (arith, code-count)
+      pub codes-back : unpacked (length w) (packed k (codesIn t w)) ≡ codesIn t w
+      codes-back =
+          ap (λ (n : ℕ). unpacked n (packed k (codesIn t w))) (sym code-count)
+          ∙ unpacked-packed (codesIn t w) (codes-low t w) k codes-fit
 
-        pub codes-back : unpacked (length w) (packed k (codesIn t w)) ≡ codesIn t w
-        codes-back =
-            ap (λ (n : ℕ). unpacked n (packed k (codesIn t w))) (sym code-count)
-            ∙ unpacked-packed (codesIn t w) (codes-low t w) k codes-fit
+      pub size-codes : unpacked (sizeOf t w % 256) (packed k (codesIn t w)) ≡ codesIn t w
+      size-codes = ap (λ (n : ℕ). unpacked n (packed k (codesIn t w))) size-letters ∙ codes-back
 
-        pub size-codes : unpacked (sizeOf t w % 256) (packed k (codesIn t w)) ≡ codesIn t w
-        size-codes = ap (λ (n : ℕ). unpacked n (packed k (codesIn t w))) size-letters ∙ codes-back
+      pub packed-word : wordOf t (sizeOf t w) (packed k (codesIn t w)) ≡ w
+      packed-word = ap (map (letterIn t)) size-codes ∙ letters-back w letters
 
-        pub packed-word : wordOf t (sizeOf t w) (packed k (codesIn t w)) ≡ w
-        packed-word = ap (map (letterIn t)) size-codes ∙ letters-back w letters
+      pub packed-held : Held t (sizeOf t w) (packed k (codesIn t w))
+      packed-held = record {
+        packs = rw (size-letters, ← code-count) (packed-packs (codesIn t w) (codes-low t w) k codes-fit);
+        weighed = size-weight ∙ sym (codes-weight w letters) ∙ ap (weight (weightIn t)) (sym size-codes);
+      }
 
-        pub packed-held : Held t (sizeOf t w) (packed k (codesIn t w))
-        packed-held = record {
-          packs = rw (size-letters, ← code-count) (packed-packs (codesIn t w) (codes-low t w) k codes-fit);
-          weighed = size-weight ∙ sym (codes-weight w letters) ∙ ap (weight (weightIn t)) (sym size-codes);
-        }
-
--- What n letters of a text weigh at most.
-pub part-light : (t : List ℕ) → Keys t → (text : List ℕ) (from n : ℕ) → from + n ≤ length text → All (Letter 26) (take n (drop from text))
-    → weight (keyWeightIn t) (take n (drop from text)) ≤ 65535 * n
-part-light t keys text from n h letters = omega (arith, word-light t keys (take n (drop from text)) letters, part-length from n text h)
+-- The size of n letters of a text.
+pub size-even : (t : List ℕ) → Keys t → (text : List ℕ) (from n : ℕ) → from + n ≤ length text → All (Letter 26) (take n (drop from text))
+    → 257 * n ≡ 256 * weight (keyWeightIn t) (take n (drop from text)) + n
+size-even t keys text from n h letters = omega (arith, letters-weight t keys (take n (drop from text)) letters, part-length from n text h)
 
 -- Blocks and size of a word of n letters in six blocks: what a caller may know of them.
 pub six-known : (t : List ℕ) → Keys t → (w : Word) → All (Letter 26) w → (n z : ℕ) (bs : List ℕ) → length w ≡ n → n ≤ 72

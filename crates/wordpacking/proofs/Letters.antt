@@ -5,17 +5,15 @@ use Prim.Native.Nat.{ℕ, _+_, _-_, _*_, _%_, _^_, _≤_, _<_, min}
 use native.Mathlib.Nat.{add-zero, zero-add, lt-of-lt-of-le}
 use native.Mathlib.Omega.{arith}
 use lib.ListN.{length, getD, take, drop, length-take, length-drop, length-map, List·getD-eq-default}
-use lib.Seq.{ext-getD}
+use lib.Seq.{ext-getD, take-take}
 use lib.Pow.{pow-mono, shl-exact}
 use Rattle.lists.proofs.Parts.{part-length}
 use Rattle.lists.proofs.Maps.{map-at, map-take, map-drop}
 use Rattle.words.specs.Word.{Word}
-use Rattle.words.specs.Weighted.{weight}
-use Rattle.packedwords.specs.Packed.{value, window}
+use Rattle.packedwords.specs.Packed.{Codes, value, window, front}
 use Rattle.packedwords.proofs.Values.{after, value-add, value-same, value-zero, value-lt}
-use Rattle.packedwords.proofs.Windows.{window-drop, window-whole}
+use Rattle.packedwords.proofs.Windows.{window-drop, window-end, window-take, window-whole}
 use Rattle.packing.proofs.Entries.{part-at}
-use Rattle.wordpacking.proofs.Weights.{weight-part}
 
 -- The letters of text from `at` on, each as f has it.
 abbrev pub spelt : (ℕ → ℕ) → List ℕ → ℕ → ℕ → ℕ
@@ -58,6 +56,20 @@ module _ (f : ℕ → ℕ) (low : (a : ℕ) → f a < 32) where
         shl-exact (5 * r) (60 - 5 * r) 64 (value-lt (spelt f text at) (λ j. low (getD text (at + j) 0)) r) (omega arith)
         ∙ sym (rw (whole, moved) at (value-add letter r (12 - r)) ∙ ap₂ (λ (y z : ℕ). y * up + z) letters-part zeros-behind ∙ add-zero (x * up))
 
+-- No letters are the block 0.
+pub block-of-none : (f : ℕ → ℕ) (text : List ℕ) (at r : ℕ) → at + r ≤ length text → r ≡ 0 → 0 ≡ window (map f (take r (drop at text))) 0
+block-of-none f text at r h e =
+    sym (window-end (map f (take r (drop at text))) 0 (omega (arith, length-map (take r (drop at text)) f, part-length at r text h)))
+
+-- Of the block of twelve letters the first r are the block of these r.
+pub block-of-front : (f : ℕ → ℕ) (text : List ℕ) (at r : ℕ) → Codes (map f (take 12 (drop at text))) → r ≤ 12
+    → front (window (map f (take 12 (drop at text))) 0) r ≡ window (map f (take r (drop at text))) 0
+block-of-front f text at r codes few =
+    let w = map f (take 12 (drop at text)) in
+    let all : r ≡ r - 0 = omega arith in
+    ap (front (window w 0)) all ∙ sym (window-take r w 0 codes)
+    ∙ ap (λ (v : Word). window v 0) (sym (map-take f r (take 12 (drop at text))) ∙ ap (map f) (take-take r 12 (drop at text) few))
+
 -- The block of a word from place k on is that of the twelve letters there.
 block-of-word : (f : ℕ → ℕ) (w : Word) (k : ℕ) → window (map f (take 12 (drop k w))) 0 ≡ window (map f w) k
 block-of-word f w k =
@@ -82,17 +94,8 @@ part-of-word text from n k i r h d e =
     part-at text (from + i) r j short ∙ ap (λ (x : ℕ). getD text x 0) (omega arith)
     ∙ sym (part-at w k 12 j (omega arith) ∙ part-at text from n (k + j) (omega arith)))
 
--- So the block of these letters is the word's block from place k on, and what they weigh is what is left there less what is left behind them.
+-- So the block of these letters is the word's block from place k on.
 pub block-of-text : (f : ℕ → ℕ) (text : List ℕ) (from n k i r : ℕ) → from + n ≤ length text → i ≡ min k n → r ≡ min (n - i) 12
     → window (map f (take r (drop (from + i) text))) 0 ≡ window (map f (take n (drop from text))) k
 block-of-text f text from n k i r h d e =
     ap (λ (v : Word). window (map f v) 0) (part-of-word text from n k i r h d e) ∙ block-of-word f (take n (drop from text)) k
-
-pub weight-of-text : (f : ℕ → ℕ) (text : List ℕ) (from n j i r : ℕ) → from + n ≤ length text → i ≡ min (12 * j) n → r ≡ min (n - i) 12
-    → weight f (take r (drop (from + i) text)) + weight f (drop (12 * (j + 1)) (take n (drop from text)))
-    ≡ weight f (drop (12 * j) (take n (drop from text)))
-weight-of-text f text from n j i r h d e =
-    let w = take n (drop from text) in
-    let next : 12 * (j + 1) ≡ 12 * j + 12 = omega arith in
-    ap₂ (λ (u : Word) (k : ℕ). weight f u + weight f (drop k w)) (part-of-word text from n (12 * j) i r h d e) next
-    ∙ weight-part f w (12 * j) 12

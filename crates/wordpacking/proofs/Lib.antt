@@ -1,4 +1,3 @@
 pub mod Letters
-pub mod Weights
 pub mod KeyedWords
 pub mod WordBlocks

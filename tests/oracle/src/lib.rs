@@ -12,6 +12,7 @@ pub mod leads;
 pub mod lines;
 pub mod overlaps;
 pub mod package;
+pub mod packing;
 pub mod poly;
 pub mod refusal;
 pub mod services;

@@ -13,7 +13,16 @@ pub struct Stood {
     pub compared: usize,
 }
 
+/// Whether bytes are a word that is packed, and the numbers that it is packed into.
+#[repr(C)]
+#[derive(Clone, Copy, Debug, PartialEq, Eq)]
+pub struct Packed {
+    pub fits: bool,
+    pub blocks: [u64; 6],
+}
+
 extern "C" {
+    fn vg_trial_pack(w: *const u8, w_len: usize) -> Packed;
     fn vg_trial_stands_at(b: *const u8, b_len: usize, w: *const u8, w_len: usize, at: usize) -> Stood;
 }
 
@@ -26,4 +35,11 @@ pub fn stands_at(b: Option<&[u8]>, w: Option<&[u8]>, at: usize) -> Stood {
     let ((b, b_len), (w, w_len)) = (lent(b), lent(w));
     // Both pointers are valid for their lengths.
     unsafe { vg_trial_stands_at(b, b_len, w, w_len, at) }
+}
+
+/// The word `w`, packed.
+pub fn pack(w: Option<&[u8]>) -> Packed {
+    let (w, w_len) = lent(w);
+    // The pointer is valid for its length.
+    unsafe { vg_trial_pack(w, w_len) }
 }

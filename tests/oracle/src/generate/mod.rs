@@ -14,6 +14,8 @@ pub mod formula_rows;
 pub mod formulas;
 pub mod growth;
 pub mod package_rows;
+pub mod packed_rows;
+pub mod packed_words;
 pub mod place_rows;
 pub mod places;
 pub mod products;

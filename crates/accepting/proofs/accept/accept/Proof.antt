@@ -1,5 +1,5 @@
 -- `accept` reads, judges the basis, fills the table, and checks the package that the table holds.
-use mathlib.Core.Path.{_≡_, sym}
+use mathlib.Core.Path.{_≡_}
 use native.Mathlib.Omega.{arith}
 use lib.ListN.{length}
 use Rattle.package.specs.Held.{seenAll}

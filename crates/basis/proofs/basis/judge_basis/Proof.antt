@@ -1,62 +1,230 @@
--- `judge_basis` judges refusals 8 and 9.
+-- `judge_basis` judges refusals 8 and 9. The loop's invariant: what is left to judge gives the verdict of refusal 8, and the leading words before are laid.
 use borrow.Author.Needs.{needs}
-use mathlib.Core.Path.{sym, _∙_}
+use borrow.Author.Tests.{eqb-true, eqb-false, not-true, not-false}
+use mathlib.Core.Path.{_≡_, sym, _∙_}
+use mathlib.Core.Logic.{⊎-elim}
+use Prim.Native.Nat.{_+_, _-_, _≤_}
+use native.Mathlib.Omega.{arith}
+use lib.ListN.{length, getD}
+use Rattle.working.specs.Family.{familyAt}
+use Rattle.acceptance.specs.Check.{fine, leadsJudged}
+use Rattle.basis.specs.Heads.{HeadsOf}
 use Rattle.basis.specs.Answer.{basisVerdict, HeadsWhere}
 use Rattle.basis.proofs.ToldNumbers.{told-refused, told-fine}
 use Rattle.basis.proofs.BasisAnswers.{lead-judged, apart-told}
+use Rattle.basis.proofs.LeadingHeads.{Filled, filled-none, filled-next, leads-start, leads-zero, leads-other, leads-next, leads-end, heads-of, start-within, length-within}
 use Rattle.basis.proofs.basis.judge_basis.Statement.{statement}
 use Rattle.basis.proofs.basis.judge_basis.Tie as tie
 
-leading-words-requires : tie.Need-leading-words-requires
-leading-words-requires c κs = search needs
+abbrev Inv-loop : tie.InvT-loop
+Inv-loop coefs starts lens bytes firsts base count heads₀ headlens₀ g₀ heads headlens g =
+    (g ≤ count)
+    × (length heads ≡ length heads₀)
+    × (length headlens ≡ length headlens₀)
+    × (leadsJudged (familyAt coefs starts lens bytes firsts (base + g) (count - g)) (g + 1) ≡ leadsJudged (familyAt coefs starts lens bytes firsts base count) 1)
+    × Filled starts lens firsts base g heads headlens
 
-same-length : tie.Need-same-length
+abbrev μ-loop : tie.MeasureT-loop
+μ-loop coefs starts lens bytes firsts base count heads₀ headlens₀ g₀ heads headlens g = count - g
+
+-- what is known at the call
+abbrev start : tie.At-loop Inv-loop μ-loop → tie.Start Inv-loop μ-loop
+start m = m .before .before .before .before .before .before .before .before
+
+-- the terms of polynomial g end among those that are well formed
+ends : (i : tie.In-loop Inv-loop μ-loop) → getD (start (i .before) .args .firsts .now) (start (i .before) .args .base + i .before .loop .g + 1) 0 ≤ start (i .before) .pre .0 .m
+ends i = start (i .before) .pre .0 .runs .most (i .before .loop .g) (i .loop-test .taken)
+
+-- behind the loop nothing is refused with 8
+led : (i : tie.After-loop Inv-loop μ-loop)
+    → let s = start (i .before) .args in
+    fine ≡ leadsJudged (familyAt (s .coefs .now) (s .starts .now) (s .lens .now) (s .bytes .now) (s .firsts .now) (s .base) (s .count)) 1
+led i = leads-end _ _ _ _ _ _ _ (start (i .before) .pre .0) (i .before .loop .g) (i .loop-test .left) ∙ i .before .loop .inv .3
+
+-- and the leading words are laid
+laid : (i : tie.After-loop Inv-loop μ-loop)
+    → let s = start (i .before) .args in
+    HeadsOf (s .coefs .now) (s .starts .now) (s .lens .now) (s .bytes .now) (s .firsts .now) (s .base) (s .count) (i .before .loop .heads) (i .before .loop .headlens)
+laid i =
+    let s = start (i .before) in
+    let l = i .before .loop in
+    let u = s .pre .1 .0 in
+    let v = s .pre .1 .1 in
+    let x = l .inv .1 in
+    let y = l .inv .2 in
+    let e : l .g ≡ s .args .count = omega arith in
+    heads-of _ _ _ _ _ _ _ (s .pre .0) _ _ (rw e at (l .inv .4)) (omega arith) (omega arith)
+
+loop-holds : tie.Need-loop-holds Inv-loop μ-loop
+loop-holds c =
+    let s = c .before .before .before .before .before .before .before in
+    (omega arith, search needs, search needs, leads-start _ _ _ _ _ _ _ (s .pre .0), filled-none _ _ _ _ _ _ _ (s .pre .0) _ _)
+
+add-a : tie.Need-add-a Inv-loop μ-loop
+add-a c = omega (arith, start (c .before) .pre .0 .runs .marks)
+
+mul-a : tie.Need-mul-a Inv-loop μ-loop
+mul-a c = omega (arith, start (c .before) .pre .0 .runs .marks)
+
+shared-slice-read-a : tie.Need-shared-slice-read-a Inv-loop μ-loop
+shared-slice-read-a c = omega (arith, start (c .before .before) .pre .0 .runs .marks)
+
+add-b : tie.Need-add-b Inv-loop μ-loop
+add-b c = omega (arith, start (c .before .before) .pre .0 .runs .marks)
+
+add-b-2 : tie.Need-add-b-2 Inv-loop μ-loop
+add-b-2 c = omega (arith, start (c .before .before) .pre .0 .runs .marks)
+
+mul-b : tie.Need-mul-b Inv-loop μ-loop
+mul-b c = omega (arith, start (c .before .before) .pre .0 .runs .marks)
+
+shared-slice-read-b : tie.Need-shared-slice-read-b Inv-loop μ-loop
+shared-slice-read-b c = omega (arith, start (c .before .before .before) .pre .0 .runs .marks)
+
+mul-if2 : tie.Need-mul-if2 Inv-loop μ-loop
+mul-if2 c = let i = c .before .before .before in omega (arith, start (i .before) .pre .0 .terms .coefs-hold, ends i)
+
+shared-slice-read-if2 : tie.Need-shared-slice-read-if2 Inv-loop μ-loop
+shared-slice-read-if2 c = let i = c .before .before .before .before in omega (arith, start (i .before) .pre .0 .terms .coefs-hold, ends i)
+
+add-t26 : tie.Need-add-t26 Inv-loop μ-loop
+add-t26 c = search needs
+
+same-length : tie.Need-same-length Inv-loop μ-loop
 same-length c = search needs
 
-same-length-2 : tie.Need-same-length-2
+same-length-2 : tie.Need-same-length-2 Inv-loop μ-loop
 same-length-2 c = search needs
 
-returns : tie.Need-returns
+returns : tie.Need-returns Inv-loop μ-loop
 unfolding basisVerdict HeadsWhere
-returns c = (lead-judged _ _ (c .before .before .before .before .before .leading-words .ensures .0) (c .if1 .taken), tt)
+returns c =
+    let i = c .before .before .before in
+    let l = i .before .loop in
+    let L = start (i .before) .pre .0 in (
+      lead-judged _ _ (⊎-elim
+          (λ t. leads-zero _ _ _ _ _ _ _ L (l .g) (i .loop-test .taken) (t .taken))
+          (λ t. leads-other _ _ _ _ _ _ _ L (l .g) (i .loop-test .taken) (t .0 .left) (eqb-false _ 1 (not-true _ (t .2 .taken))))
+          (c .if1 .came) ∙ l .inv .3),
+      tt,
+    )
 
-first-holding-requires : tie.Need-first-holding-requires
-first-holding-requires c κs = c .before .before .before .before .before .before .before .leading-words .ensures .1 (c .before .before .if1 .left) .laid
+mul-heads : tie.Need-mul-heads Inv-loop μ-loop
+mul-heads c = let i = c .before .before .before .before .before in omega (arith, start (i .before) .pre .0 .terms .starts-hold, ends i)
 
-same-length-3 : tie.Need-same-length-3
+shared-slice-read-heads : tie.Need-shared-slice-read-heads Inv-loop μ-loop
+shared-slice-read-heads c = let i = c .before .before .before .before .before .before in omega (arith, start (i .before) .pre .0 .terms .starts-hold, ends i)
+
+cast-heads : tie.Need-cast-heads Inv-loop μ-loop
+cast-heads c =
+    let i = c .before .before .before .before .before .before in
+    let q = start-within _ _ _ _ _ _ _ (start (i .before) .pre .0) (i .before .loop .g) (i .loop-test .taken) (c .before .before .before .if1 .left) in
+    search needs
+
+mul-heads-2 : tie.Need-mul-heads-2 Inv-loop μ-loop
+mul-heads-2 c = search needs
+
+slice-write-heads : tie.Need-slice-write-heads Inv-loop μ-loop
+slice-write-heads c = search needs
+
+shared-slice-read-headlens : tie.Need-shared-slice-read-headlens Inv-loop μ-loop
+shared-slice-read-headlens c = let i = c .before .before .before .before .before .before .before in omega (arith, start (i .before) .pre .0 .terms .lens-hold, ends i)
+
+cast-headlens : tie.Need-cast-headlens Inv-loop μ-loop
+cast-headlens c =
+    let i = c .before .before .before .before .before .before .before in
+    let q = length-within _ _ _ _ _ _ _ (start (i .before) .pre .0) (i .before .loop .g) (i .loop-test .taken) (c .before .before .before .before .if1 .left) in
+    search needs
+
+mul-headlens : tie.Need-mul-headlens Inv-loop μ-loop
+mul-headlens c = search needs
+
+slice-write-headlens : tie.Need-slice-write-headlens Inv-loop μ-loop
+slice-write-headlens c = search needs
+
+add-g : tie.Need-add-g Inv-loop μ-loop
+add-g c = search needs
+
+loop-less : tie.Need-loop-less Inv-loop μ-loop
+loop-less c = search needs
+
+loop-again : tie.Need-loop-again Inv-loop μ-loop
+loop-again c =
+    let i = c .before .before .before .before .before .before .before in
+    let s = start (i .before) in
+    let l = i .before .loop in
+    let t = i .loop-test .taken in
+    let f = c .before .before .before .before .if1 .left in
+    let u = s .pre .1 .0 in
+    let v = s .pre .1 .1 in
+    let x = l .inv .1 in
+    let y = l .inv .2 in (
+      search needs,
+      search needs,
+      search needs,
+      leads-next _ _ _ _ _ _ _ (s .pre .0) (l .g) t f (eqb-true _ 1 (not-false _ (c .before .before .if2 .left))) ∙ l .inv .3,
+      filled-next _ _ _ _ _ _ _ (s .pre .0) (l .g) t _ _ (omega arith) (omega arith) f (l .inv .4),
+    )
+
+first-holding-requires : tie.Need-first-holding-requires Inv-loop μ-loop
+first-holding-requires c κs = laid (c .before .before) .laid
+
+same-length-3 : tie.Need-same-length-3 Inv-loop μ-loop
 same-length-3 c = search needs
 
-same-length-4 : tie.Need-same-length-4
+same-length-4 : tie.Need-same-length-4 Inv-loop μ-loop
 same-length-4 c = search needs
 
-returns-2 : tie.Need-returns-2
+returns-2 : tie.Need-returns-2 Inv-loop μ-loop
 unfolding basisVerdict HeadsWhere
 returns-2 c =
-    let z = c .before .before .before .before .if1 .left in
-    let e = c .before .before .before .before .before .before .before .before .before .leading-words .ensures in
-    (sym (told-refused 9 _ (c .if2 .taken)) ∙ apart-told _ _ (e .0) z _ (e .1 z .leading) _ (c .before .first-holding .ensures), tt)
+    let i = c .before .before .before .before in
+    (sym (told-refused 9 _ (c .if3 .taken)) ∙ apart-told _ (led i) _ (laid i .leading) _ (c .before .first-holding .ensures), tt)
 
-same-length-5 : tie.Need-same-length-5
+same-length-5 : tie.Need-same-length-5 Inv-loop μ-loop
 same-length-5 c = search needs
 
-same-length-6 : tie.Need-same-length-6
+same-length-6 : tie.Need-same-length-6 Inv-loop μ-loop
 same-length-6 c = search needs
 
-returns-3 : tie.Need-returns-3
+returns-3 : tie.Need-returns-3 Inv-loop μ-loop
 unfolding basisVerdict HeadsWhere
 returns-3 c =
-    let z = c .before .before .before .before .if1 .left in
-    let e = c .before .before .before .before .before .before .before .before .before .leading-words .ensures in
-    (sym (told-fine 9 _ .1 (c .if2 .left)) ∙ apart-told _ _ (e .0) z _ (e .1 z .leading) _ (c .before .first-holding .ensures), e .1 z)
+    let i = c .before .before .before .before in
+    (sym (told-fine 9 _ .1 (c .if3 .left)) ∙ apart-told _ (led i) _ (laid i .leading) _ (c .before .first-holding .ensures), laid i)
 
 pub judge-basis-spec : {M : Type 1} → statement M
 judge-basis-spec =
     tie.close
     (tie.spec
-    leading-words-requires
+    Inv-loop
+    μ-loop
+    loop-holds
+    add-a
+    mul-a
+    shared-slice-read-a
+    add-b
+    add-b-2
+    mul-b
+    shared-slice-read-b
+    mul-if2
+    shared-slice-read-if2
+    add-t26
     same-length
     same-length-2
     returns
+    mul-heads
+    shared-slice-read-heads
+    cast-heads
+    mul-heads-2
+    slice-write-heads
+    shared-slice-read-headlens
+    cast-headlens
+    mul-headlens
+    slice-write-headlens
+    add-g
+    loop-less
+    loop-again
     first-holding-requires
     same-length-3
     same-length-4

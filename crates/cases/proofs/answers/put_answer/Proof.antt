@@ -1,5 +1,5 @@
 -- `put_answer`: each letter's text.
-use Rattle.cases.proofs.AnswerTexts.{answer-checked, answer-listed, answer-shortened, answer-membership, answer-standing, answer-program, stored-as}
+use Rattle.cases.proofs.AnswerTexts.{answer-checked, answer-listed, answer-shortened, answer-membership, answer-standing, answer-packed, answer-program, stored-as}
 use borrow.Author.Needs.{needs}
 use Rattle.cases.proofs.answers.put_answer.Statement.{statement}
 use Rattle.cases.proofs.answers.put_answer.Tie as tie
@@ -67,8 +67,8 @@ returns-5 c =
     let s = p .before .before .before .before .before .before .before .before .before .before .before .before in
     stored-as _ _ _ _ _ _ (answer-standing (s .args .line .now) (s .args .«package» .now) (s .args .formula .now) (search needs) (search needs) (search needs) (search needs) (search needs)) (p .put-standing .ensures)
 
-put-printed-requires : tie.Need-put-printed-requires
-put-printed-requires c κs = search needs
+put-packed-requires : tie.Need-put-packed-requires
+put-packed-requires c κs = search needs
 
 same-length-6 : tie.Need-same-length-6
 same-length-6 c = search needs
@@ -76,8 +76,20 @@ same-length-6 c = search needs
 returns-6 : tie.Need-returns-6
 returns-6 c =
     let p = c .before .before in
-    let s = p .before .before .before .before .before .before .before .before .before .before .before .before in
-    stored-as _ _ _ _ _ _ (answer-program (s .args .line .now) (s .args .«package» .now) (s .args .formula .now) (search needs) (search needs) (search needs) (search needs) (search needs)) (p .put-printed .ensures)
+    let s = p .before .before .before .before .before .before .before .before .before .before .before .before .before in
+    stored-as _ _ _ _ _ _ (answer-packed (s .args .line .now) (s .args .«package» .now) (s .args .formula .now) (search needs) (search needs) (search needs) (search needs) (search needs) (search needs)) (p .put-packed .ensures)
+
+put-printed-requires : tie.Need-put-printed-requires
+put-printed-requires c κs = search needs
+
+same-length-7 : tie.Need-same-length-7
+same-length-7 c = search needs
+
+returns-7 : tie.Need-returns-7
+returns-7 c =
+    let p = c .before .before in
+    let s = p .before .before .before .before .before .before .before .before .before .before .before .before .before in
+    stored-as _ _ _ _ _ _ (answer-program (s .args .line .now) (s .args .«package» .now) (s .args .formula .now) (search needs) (search needs) (search needs) (search needs) (search needs) (search needs)) (p .put-printed .ensures)
 
 pub put-answer-spec : {M : Type 1} → statement M
 put-answer-spec =
@@ -99,6 +111,9 @@ put-answer-spec =
     put-standing-requires
     same-length-5
     returns-5
-    put-printed-requires
+    put-packed-requires
     same-length-6
-    returns-6)
+    returns-6
+    put-printed-requires
+    same-length-7
+    returns-7)

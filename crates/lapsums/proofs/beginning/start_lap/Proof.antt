@@ -1,38 +1,35 @@
--- `start_lap` packs the two factors, builds the overlap word and starts with the difference.
+-- `start_lap` cuts the two factors, builds the overlap word and starts with the difference.
 use mathlib.Core.Path.{refl}
-use Rattle.tablesums.proofs.LeadingWords.{first-leads}
 use Rattle.lapsums.proofs.beginning.start_lap.Statement.{statement}
 use Rattle.lapsums.proofs.beginning.start_lap.Tie as tie
 
 -- the calls, from the last back to the first
-abbrev start : tie.After-pack-factors → tie.Start
-start p = p .before .before .before .before .before .before
+abbrev start : tie.After-cut-factors → tie.Start
+start p = p .before .before .before
 
-abbrev factors : tie.After-overlap-word → tie.After-pack-factors
+abbrev factors : tie.After-overlap-word → tie.After-cut-factors
 factors w = w .before .before .before
 
 abbrev word : tie.After-start-difference → tie.After-overlap-word
 word d = d .before .before .before .before .before .before .before .before
 
-pack-factors-requires : tie.Need-pack-factors-requires
-pack-factors-requires c κs =
-    let s = c .before .before .before .before .before in
-    let (tabled, heads) = s .pre .0 in
-    ((tabled .keys, heads, s .pre .1 .0 .0), (refl, refl))
+cut-factors-requires : tie.Need-cut-factors-requires
+cut-factors-requires c κs =
+    let s = c .before .before in
+    (s .pre .0 .0, s .pre .0 .1, refl, refl)
 
 overlap-word-requires : tie.Need-overlap-word-requires
 overlap-word-requires c κs =
     let p = c .before .before in
-    let s = start p in
-    let (tabled, heads) = s .pre .0 in
-    (tabled, first-leads heads (s .args .f) (s .pre .1 .0 .0), p .pack-factors .ensures .1, s .pre .1 .0 .1)
+    let (tabled, lapped, nine) = start p .pre .0 in
+    (tabled, lapped .first, p .cut-factors .ensures .1, nine)
 
 start-difference-requires : tie.Need-start-difference-requires
 start-difference-requires c κs =
     let p = factors (c .before .before .before .before .before .before .before) in
     let s = start p in
-    let lapped = s .pre .1 .0 .0 in
-    ((s .pre .0 .0, lapped .first, lapped .second, refl), (p .pack-factors .ensures .0, (p .pack-factors .ensures .1, s .pre .1 .1)))
+    let (tabled, lapped, _) = s .pre .0 in
+    ((tabled, lapped .first .most, lapped .second .most, refl), (p .cut-factors .ensures .0, (p .cut-factors .ensures .1, s .pre .1)))
 
 returns : tie.Need-returns
 returns c =
@@ -41,4 +38,4 @@ returns c =
     ((e .0 .0, u .0), (u .1, (e .1 .0, e .1 .1)))
 
 pub start-lap-spec : {M : Type 1} → statement M
-start-lap-spec = tie.close (tie.spec pack-factors-requires overlap-word-requires start-difference-requires returns)
+start-lap-spec = tie.close (tie.spec cut-factors-requires overlap-word-requires start-difference-requires returns)

@@ -22,6 +22,7 @@ use Rattle.table.specs.Polynomials.{basisIn}
 use Rattle.table.specs.Table.{fieldIn, orderIn, basisCountIn, itemsIn}
 use Rattle.packedterms.specs.Formula.{formula, Room, Working}
 use Rattle.tablesums.proofs.Fitting.{short-fits}
+use Rattle.tablesums.proofs.LeadingWords.{lapping}
 use Rattle.tablelies.proofs.SumWords.{line-words}
 use Rattle.lapsums.specs.Judged.{lapsVerdictOf, LapsBehind}
 use Rattle.lapsums.proofs.BasisLeads.{basis-leads}
@@ -187,7 +188,7 @@ start-lap-requires c κs =
     let (tabled, heads, _) = start b .pre .0 in
     let i = m .items .inv in
     let lapped = count-lapped heads (b .basis-in .ensures) _ (i .6 .found (x .items-test .taken)) in
-    ((tabled, heads), ((lapped, i .2), (i .4, i .5)))
+    ((tabled, lapping heads _ lapped, i .2), (i .4, i .5))
 
 loop-holds : tie.Need-loop-holds Inv-loop μ-loop Inv-items μ-items
 loop-holds c =

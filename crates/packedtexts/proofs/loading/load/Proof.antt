@@ -9,17 +9,17 @@ use Rattle.working.specs.Working.{terms}
 use Rattle.working.specs.Polynomial.{polyTerm}
 use Rattle.working.proofs.Terms.{terms-none, terms-last}
 use Rattle.packedterms.specs.Formula.{formula, Holds}
-use Rattle.packedtexts.proofs.Loaded.{none-held}
+use Rattle.packedterms.proofs.Places.{holds-none}
 use borrow.Author.Needs.{needs}
 use Rattle.packedtexts.proofs.loading.load.Statement.{statement}
 use Rattle.packedtexts.proofs.loading.load.Tie as tie
 
 abbrev Inv-loop : tie.InvT-loop
-Inv-loop t fc fs fl text c₀ l₀ w₀ o₀ j₀ c l w o j =
+Inv-loop t fc fs fl text c₀ l₀ w₀ o j₀ c l w j =
     (j ≤ length fc) × Holds t c l w o j × (formula t c l w o j ≡ terms (polyTerm fc fs fl text) 0 j)
 
 abbrev μ-loop : tie.MeasureT-loop
-μ-loop t fc fs fl text c₀ l₀ w₀ o₀ j₀ c l w o j = length fc - j
+μ-loop t fc fs fl text c₀ l₀ w₀ o j₀ c l w j = length fc - j
 
 -- the start, from the place before the loop, and term after term of the polynomial
 abbrev begun : tie.After-start Inv-loop μ-loop → tie.Start Inv-loop μ-loop
@@ -33,9 +33,11 @@ start-requires c κs = search needs
 
 loop-holds : tie.Need-loop-holds Inv-loop μ-loop
 loop-holds c =
-    let z = begun c in (
+    let z = begun c in
+    let r = z .pre .1 .1 .1 in (
       omega arith,
-      none-held _ _ _ _ _ _ (z .pre .1 .1 .1) (c .start .kept .0) (c .start .ensures),
+      holds-none _ _ _ _ _ (c .start .ensures)
+          (record { coefs = r .coefs; sizes = r .sizes; blocks = r .blocks; places = c .start .kept .0 ∙ r .places }),
       terms-none _ 0 refl ∙ sym (terms-none (given z) 0 refl),
     )
 

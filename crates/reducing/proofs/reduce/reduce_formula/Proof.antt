@@ -1,8 +1,8 @@
 -- `reduce_formula` reads the formula, loads it into the arrays and reduces what they hold.
-use mathlib.Core.Path.{_≡_, sym, _∙_, ap, subst}
-use Prim.Native.Nat.{ℕ, _-_, _≤_}
+use mathlib.Core.Path.{_∙_}
+use Prim.Native.Nat.{_-_}
 use native.Mathlib.Omega.{arith}
-use lib.ListN.{length, take}
+use lib.ListN.{take}
 use Rattle.package.specs.Held.{seenFormula, countFormula}
 use Rattle.table.specs.Table.{primeIn, lettersIn}
 use Rattle.reducing.specs.Reductions.{seenReduced, ShortHeld}

@@ -6,7 +6,7 @@ use Rattle.table.specs.Polynomials.{wordIn}
 use Rattle.table.specs.Table.{gensIn, firstIn}
 use Rattle.tablesums.proofs.Fitting.{empty-short}
 use Rattle.table.proofs.LeadingTerms.{LeadTerm, lead-term}
-use Rattle.tablesums.proofs.PackedFactors.{overlap-made}
+use Rattle.tablesums.proofs.CutFactors.{overlap-made}
 use borrow.Author.Needs.{needs}
 use Rattle.tablesums.proofs.factors.overlap_word.Statement.{statement}
 use Rattle.tablesums.proofs.factors.overlap_word.Tie as tie

@@ -1,115 +1,21 @@
--- `pack_block` packs letters one by one. The invariant: the first i letters are one number, and what they weigh is counted.
-use mathlib.Core.Path.{_≡_, refl, sym, _∙_, ap, ap₂}
-use Prim.Native.Nat.{ℕ, suc, _+_, _-_, _*_, _%_, _^_, _≤_}
-use native.Mathlib.Omega.{arith}
-use lib.ListN.{take, drop}
-use Rattle.words.specs.Weighted.{weight}
-use Rattle.packedwords.specs.Packed.{value}
-use Rattle.table.specs.Table.{codeIn, keyWeightIn}
-use Rattle.wordpacking.proofs.KeyedWords.{code-low}
-use Rattle.wordpacking.proofs.Letters.{spelt, spelt-room, block-of-part}
-use Rattle.wordpacking.proofs.Weights.{weight-all, weight-first, weight-none}
+-- `pack_block` is 0 where there is no letter, and else what `pack_some` packs.
+use Rattle.table.specs.Table.{codeIn}
+use Rattle.wordpacking.proofs.Letters.{block-of-none}
 use borrow.Author.Needs.{needs}
 use Rattle.wordpacking.proofs.pack.pack_block.Statement.{statement}
 use Rattle.wordpacking.proofs.pack.pack_block.Tie as tie
 
-abbrev Inv-loop : tie.InvT-loop
-Inv-loop t text at r x₀ weight₀ i₀ x weigh i =
-    (i ≤ r)
-    × (x ≡ value (spelt (codeIn t) text at) i)
-    × (weigh + weight (keyWeightIn t) (take (r - i) (drop (at + i) text)) ≡ weight (keyWeightIn t) (take r (drop at text)))
-    × (weigh ≤ 576460752303423488 * i)
-
-abbrev μ-loop : tie.MeasureT-loop
-μ-loop t text at r x₀ weight₀ i₀ x weigh i = r - i
-
-loop-holds : tie.Need-loop-holds Inv-loop μ-loop
-unfolding value
-loop-holds c =
-    let a = c .before .args in
-    (omega arith, refl, weight-all (keyWeightIn (a .t .now)) (a .text .now) (a .at) (a .r), omega arith)
-
-add-key-in : tie.Need-add-key-in Inv-loop μ-loop
-add-key-in c = search needs
-
-shared-slice-read-key-in : tie.Need-shared-slice-read-key-in Inv-loop μ-loop
-shared-slice-read-key-in c = search needs
-
-key-in-requires : tie.Need-key-in-requires Inv-loop μ-loop
-key-in-requires c κs = search needs
-
-mul-x : tie.Need-mul-x Inv-loop μ-loop
-mul-x c =
-    let l = c .before .before .before in
-    let a = l .before .before .args in
-    let room = spelt-room (codeIn (a .t .now)) (code-low (a .t .now)) (a .text .now) (a .at) (l .loop .i) (search needs) in
-    search needs
-
-add-x : tie.Need-add-x Inv-loop μ-loop
-add-x c =
-    let l = c .before .before .before in
-    let a = l .before .before .args in
-    let room = spelt-room (codeIn (a .t .now)) (code-low (a .t .now)) (a .text .now) (a .at) (l .loop .i) (search needs) in
-    search needs
-
-add-weight : tie.Need-add-weight Inv-loop μ-loop
-add-weight c = search needs
-
-add-i : tie.Need-add-i Inv-loop μ-loop
-add-i c = search needs
-
-loop-less : tie.Need-loop-less Inv-loop μ-loop
-loop-less c = search needs
-
-loop-again : tie.Need-loop-again Inv-loop μ-loop
-unfolding value
-loop-again c =
-    let l = c .before .before .before in
-    let a = l .before .before .args in
-    let i = l .loop .i in
-    let e = c .key-in .ensures in
-    let n : i + 1 ≡ suc i = omega arith in
-    let w = weight-first (keyWeightIn (a .t .now)) (a .text .now) (a .at) (a .r) i (c .before .before .loop-test .taken) (omega arith) in
-    (search needs, rw n (ap₂ (λ (x k : ℕ). x * 32 + k % 32) (l .loop .inv .1) e), omega (arith, w, e, l .loop .inv .2), search needs)
-
-mul-t15 : tie.Need-mul-t15 Inv-loop μ-loop
-mul-t15 c = search needs
-
-sub-t16 : tie.Need-sub-t16 Inv-loop μ-loop
-sub-t16 c = search needs
-
-shl-t18 : tie.Need-shl-t18 Inv-loop μ-loop
-shl-t18 c = search needs
-
-returns : tie.Need-returns Inv-loop μ-loop
+returns : tie.Need-returns
 returns c =
-    let l = c .before in
-    let a = l .before .before .args in
-    let f = codeIn (a .t .now) in
-    let e : l .loop .i ≡ a .r = search needs in
-    let h = l .before .before .pre in (
-      ap (λ (x : ℕ). x * 2 ^ (60 - 5 * a .r) % 2 ^ 64) (l .loop .inv .1 ∙ ap (value (spelt f (a .text .now) (a .at))) e)
-          ∙ block-of-part f (code-low (a .t .now)) (a .text .now) (a .at) (a .r) (h .0) (h .1),
-      sym (weight-none (keyWeightIn (a .t .now)) (a .text .now) (a .at) (a .r) (l .loop .i) (l .loop .weight) e) ∙ l .loop .inv .2,
-    )
+    let s = c .before .before in
+    let a = s .args in
+    block-of-none (codeIn (a .t .now)) (a .text .now) (a .at) (a .r) (s .pre .0) (c .if1 .taken)
+
+pack-some-requires : tie.Need-pack-some-requires
+pack-some-requires c κs = search needs
+
+returns-2 : tie.Need-returns-2
+returns-2 c = search needs
 
 pub pack-block-spec : {M : Type 1} → statement M
-pack-block-spec =
-    tie.close
-    (tie.spec
-    Inv-loop
-    μ-loop
-    loop-holds
-    add-key-in
-    shared-slice-read-key-in
-    key-in-requires
-    mul-x
-    add-x
-    add-weight
-    add-i
-    loop-less
-    loop-again
-    mul-t15
-    sub-t16
-    shl-t18
-    returns)
+pack-block-spec = tie.close (tie.spec returns pack-some-requires returns-2)

@@ -1,17 +1,15 @@
 -- `pack_short` packs two blocks: twelve letters, and those behind them.
-use mathlib.Core.Path.{_≡_, sym, _∙_, ap, ap₂}
+use mathlib.Core.Path.{sym, _∙_, ap}
 use mathlib.Core.List.{map}
-use Prim.Native.Nat.{ℕ, _+_, _-_, _*_, _≤_}
+use Prim.Native.Nat.{ℕ, _-_}
 use native.Mathlib.Nat.{add-zero}
 use native.Mathlib.Omega.{arith}
 use lib.ListN.{take, drop, length-map}
 use Rattle.lists.proofs.Parts.{part-length}
-use Rattle.words.specs.Weighted.{weight}
 use Rattle.packedwords.specs.Packed.{window}
-use Rattle.table.specs.Table.{codeIn, keyWeightIn}
-use Rattle.wordpacking.proofs.KeyedWords.{part-light}
+use Rattle.table.specs.Table.{codeIn}
+use Rattle.wordpacking.proofs.KeyedWords.{size-even}
 use Rattle.wordpacking.proofs.Letters.{block-of-text}
-use Rattle.wordpacking.proofs.Weights.{weight-two}
 use Rattle.wordpacking.proofs.WordBlocks.{short-packed}
 use borrow.Author.Needs.{needs}
 use Rattle.wordpacking.proofs.pack.pack_short.Statement.{statement}
@@ -23,6 +21,9 @@ least-requires c κs = search needs
 pack-block-requires : tie.Need-pack-block-requires
 pack-block-requires c κs = search needs
 
+element-write-dst : tie.Need-element-write-dst
+element-write-dst c = search needs
+
 add-pack-block : tie.Need-add-pack-block
 add-pack-block c = search needs
 
@@ -31,9 +32,6 @@ sub-pack-block c = search needs
 
 pack-block-requires-2 : tie.Need-pack-block-requires-2
 pack-block-requires-2 c κs = search needs
-
-element-write-dst : tie.Need-element-write-dst
-element-write-dst c = search needs
 
 element-write-dst-2 : tie.Need-element-write-dst-2
 element-write-dst-2 c = search needs
@@ -50,50 +48,28 @@ element-write-dst-5 c = search needs
 element-write-dst-6 : tie.Need-element-write-dst-6
 element-write-dst-6 c = search needs
 
-abbrev start : tie.After-struct-known2 → tie.Start
-start c = c .before .before .before .before .before .before
-
--- The two blocks weigh what the word weighs, which is not much.
-counted : (c : tie.After-struct-known2)
-    → let a = start c .args in
-    (c .before .before .before .pack-block .result .weight + c .before .before .pack-block2 .result .weight
-    ≡ weight (keyWeightIn (a .t .now)) (take (a .n) (drop (a .from) (a .text .now))))
-    × (weight (keyWeightIn (a .t .now)) (take (a .n) (drop (a .from) (a .text .now))) ≤ 65535 * a .n)
-counted c =
-    let s = start c in
-    let a = s .args in
-    let first = c .before .before .before in
-    let m = first .before .least .ensures in (
-      ap₂ _+_ (first .pack-block .ensures .1) (c .before .before .pack-block2 .ensures .1)
-          ∙ weight-two (keyWeightIn (a .t .now)) (a .text .now) (a .from) (a .n) (first .before .least .result) (omega arith),
-      part-light (a .t .now) (s .pre .0 .0) (a .text .now) (a .from) (a .n) (s .pre .0 .1) (s .pre .1 .0),
-    )
-
-add-result : tie.Need-add-result
-add-result c = let (e, h) = counted c in search needs
-
-mul-result : tie.Need-mul-result
-mul-result c = let (e, h) = counted c in search needs
-
-add-result-2 : tie.Need-add-result-2
-add-result-2 c = let (e, h) = counted c in search needs
+even-size-requires : tie.Need-even-size-requires
+even-size-requires c κs = search needs
 
 returns : tie.Need-returns
 returns c =
-    let s = start c in
+    let second = c .before in
+    let first = second .before in
+    let s = first .before .before .before in
     let a = s .args in
     let f = codeIn (a .t .now) in
     let x = a .text .now in
     let w = take (a .n) (drop (a .from) x) in
-    let first = c .before .before .before in
     let r = first .before .least .result in
     let m = first .before .least .ensures in
     let size = length-map w f ∙ part-length (a .from) (a .n) x (s .pre .0 .1) in
-    let u = first .pack-block .ensures .0 ∙ ap (λ (k : ℕ). window (map f (take r (drop k x))) 0) (sym (add-zero (a .from)))
+    let u = first .pack-block .ensures ∙ ap (λ (k : ℕ). window (map f (take r (drop k x))) 0) (sym (add-zero (a .from)))
     ∙ block-of-text f x (a .from) (a .n) 0 0 r (s .pre .0 .1) (omega arith) (omega arith) in
-    let v = c .before .before .pack-block2 .ensures .0
-    ∙ block-of-text f x (a .from) (a .n) 12 r (a .n - r) (s .pre .0 .1) (omega arith) (omega arith) in
-    (ap (λ (k : ℕ). 256 * k + a .n) (counted c .0), short-packed (map f w) (a .dst .now) _ _ (s .pre .1 .1) (omega arith) u v)
+    let v = second .pack-block2 .ensures
+    ∙ block-of-text f x (a .from) (a .n) 12 r (a .n - r) (s .pre .0 .1) (omega arith) (omega arith) in (
+      c .even-size .ensures ∙ size-even (a .t .now) (s .pre .0 .0) x (a .from) (a .n) (s .pre .0 .1) (s .pre .1 .0),
+      short-packed (map f w) (a .dst .now) _ _ (s .pre .1 .1) (omega arith) u v,
+    )
 
 pub pack-short-spec : {M : Type 1} → statement M
 pack-short-spec =
@@ -101,16 +77,14 @@ pack-short-spec =
     (tie.spec
     least-requires
     pack-block-requires
+    element-write-dst
     add-pack-block
     sub-pack-block
     pack-block-requires-2
-    element-write-dst
     element-write-dst-2
     element-write-dst-3
     element-write-dst-4
     element-write-dst-5
     element-write-dst-6
-    add-result
-    mul-result
-    add-result-2
+    even-size-requires
     returns)

@@ -3,8 +3,8 @@
 //! `differential [--inputs N] [--seed S] [--round R] [--write-cases FILE]`
 //!
 //! A run has the fixed inputs and then random rounds until there are N inputs. With `--round R` it has that
-//! round alone. It ends at the first difference. A random round has a word at a place of another for each of
-//! its inputs, and the fixed inputs begin with all small ones.
+//! round alone. It ends at the first difference. A random round has a word at a place of another and a word to be
+//! packed for each of its inputs, and the fixed inputs begin with all small ones.
 
 mod casefile;
 mod compare;
@@ -12,10 +12,12 @@ mod exhaustive;
 mod fixed;
 mod input;
 mod options;
+mod packing;
 mod round;
 mod standing;
 mod surround;
 mod tally;
+mod ways;
 
 use casefile::CaseFile;
 use compare::shown;
@@ -23,12 +25,14 @@ use input::Input;
 use options::Options;
 use oracle::generate::draft::Draft;
 use oracle::generate::examples::examples;
+use oracle::generate::packed_rows::packed_rows;
+use oracle::generate::packed_words;
 use oracle::generate::place_rows::place_rows;
 use oracle::generate::places::{drawn, every_small, AtPlace};
 use oracle::generate::random::Random;
-use standing::Ways;
 use std::process::exit;
 use tally::Tally;
+use ways::Ways;
 
 /// The project's example packages.
 const EXAMPLES: &str = concat!(env!("CARGO_MANIFEST_DIR"), "/../../examples");
@@ -41,7 +45,8 @@ struct Run {
     bytes: Random,
     cases: Option<CaseFile>,
     tally: Tally,
-    ways: Ways,
+    places: Ways<8>,
+    packings: Ways<7>,
 }
 
 impl Run {
@@ -66,9 +71,24 @@ impl Run {
         if let Some(cases) = &mut self.cases {
             written(cases.write_place(at, expected));
         }
-        self.ways.count(at, expected, self.round.is_some());
+        self.places.count(standing::way(at, expected), self.round.is_some());
         if let Some(message) = standing::difference(at, expected) {
-            println!("DIFFERENCE in word at a place {}", self.ways.all());
+            println!("DIFFERENCE in word at a place {}", self.places.all());
+            self.report_round();
+            print!("{message}");
+            exit(1);
+        }
+    }
+
+    /// The same for a word that is packed.
+    fn take_packed(&mut self, word: &[u8]) {
+        let expected = packing::expect(word);
+        if let Some(cases) = &mut self.cases {
+            written(cases.write_packed(word, expected));
+        }
+        self.packings.count(packing::way(word, expected), self.round.is_some());
+        if let Some(message) = packing::difference(word, expected) {
+            println!("DIFFERENCE in word packed {}", self.packings.all());
             self.report_round();
             print!("{message}");
             exit(1);
@@ -78,18 +98,24 @@ impl Run {
     fn fixed(&mut self) {
         place_rows().iter().for_each(|(at, _)| self.take_place(at));
         every_small().for_each(|at| self.take_place(&at));
+        packed_rows().iter().for_each(|(word, _)| self.take_packed(word));
+        packed_words::every_small().for_each(|word| self.take_packed(&word));
         fixed::fixed(&mut |input| self.take(input));
         exhaustive::exhaustive(&mut |input| self.take(input));
     }
 
-    /// A random round: its inputs, and as many words at places.
+    /// A random round: its inputs, as many words at places, and as many words to be packed.
     fn round(&mut self, number: u64, examples: &[Draft]) {
         self.round = Some(number);
         let random = &mut Random::new(self.seed, number);
         let before = self.tally.inputs();
         round::round(random, examples, &mut |input| self.take(input));
-        for _ in before..self.tally.inputs() {
+        let inputs = self.tally.inputs() - before;
+        for _ in 0..inputs {
             self.take_place(&drawn(random));
+        }
+        for _ in 0..inputs {
+            self.take_packed(&packed_words::drawn(random));
         }
     }
 
@@ -103,7 +129,8 @@ impl Run {
     }
 
     fn print_totals(&self) {
-        println!("{} words at places, no difference", self.ways.all());
+        println!("{} words at places, no difference", self.places.all());
+        println!("{} words packed, no difference", self.packings.all());
         println!("{} inputs, no difference", self.tally.inputs());
     }
 }
@@ -126,8 +153,8 @@ fn main() {
     });
     let examples = examples(EXAMPLES).unwrap_or_else(|error| options::stop(&error));
     let bytes = Random::new(options.seed, u64::MAX);
-    let (tally, ways) = (Tally::default(), Ways::default());
-    let mut run = Run { seed: options.seed, round: None, bytes, cases, tally, ways };
+    let (tally, places, packings) = (Tally::default(), standing::ways(), packing::ways());
+    let mut run = Run { seed: options.seed, round: None, bytes, cases, tally, places, packings };
     if let Some(number) = options.round {
         run.round(number, &examples);
         println!("round {number} of seed {}", options.seed);
@@ -143,8 +170,10 @@ fn main() {
         run.round(number, &examples);
     }
     run.tally.print();
-    run.ways.print();
-    let missing = [run.tally.missing(), run.ways.missing(run.tally.rounds)].concat();
+    run.places.print();
+    run.packings.print();
+    let rounds = run.tally.rounds;
+    let missing = [run.tally.missing(), run.places.missing(rounds), run.packings.missing(rounds)].concat();
     missing.iter().for_each(|line| println!("{line}"));
     run.print_totals();
     if !missing.is_empty() {

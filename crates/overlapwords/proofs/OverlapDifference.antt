@@ -1,11 +1,9 @@
--- Parts of a word that lies in bytes, and the difference of an overlap as it is added up.
+-- The difference of an overlap as it is added up.
 use mathlib.Core.Path.{_≡_, refl, sym, ap, _∙_}
-use mathlib.Core.List.{List, [], _∷_, _++_}
-use Prim.Native.Nat.{ℕ, zero, _+_, _-_, _≤_}
+use mathlib.Core.List.{[], _∷_, _++_}
+use Prim.Native.Nat.{zero, _-_}
 use native.Mathlib.Omega.{arith}
-use lib.ListN.{length, take, drop, length-take, length-drop}
-use lib.Seq.{take-take, drop-drop}
-use Rattle.lists.proofs.Parts.{drop-take}
+use lib.ListN.{length, take, drop}
 use Rattle.field.specs.Field.{Operations, Field}
 use Rattle.words.specs.Word.{Word, around}
 use Rattle.words.specs.Order.{Order, Admissible}
@@ -16,17 +14,6 @@ use Rattle.algebra.specs.Written as Wr
 use Rattle.algebra.proofs.WrittenForm.{written-multiple, written-of-written}
 use Rattle.algebra.specs.Written.{Written, plus, written}
 use Rattle.overlaps.specs.Overlaps.{Overlap, difference}
-
--- the rest of a word behind k letters
-pub rest-part : (bytes : List ℕ) (s n k : ℕ) → take (n - k) (drop (s + k) bytes) ≡ drop k (take n (drop s bytes))
-rest-part bytes s n k = sym (drop-take k n (drop s bytes) ∙ ap (λ (l : List ℕ). take (n - k) l) (drop-drop k s bytes))
-
--- a word without its last k letters
-pub front-part : (bytes : List ℕ) (s n k : ℕ) → s + n ≤ length bytes
-    → take (n - k) (drop s bytes) ≡ take (length (take n (drop s bytes)) - k) (take n (drop s bytes))
-front-part bytes s n k h =
-    let e : length (take n (drop s bytes)) ≡ n = simp (length-take, length-drop) (omega arith) in
-    rw e (sym (take-take (n - k) n (drop s bytes) (omega arith)))
 
 module _ {K : Operations} (F : Field K) (O : Order) where
   scale-shift : (l r : Word) (f : Poly) → Written K O f → scale K 1 (shift l r f) ≡ shift l r f

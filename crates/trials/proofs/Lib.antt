@@ -1,0 +1,2 @@
+-- The laws that this crate's functions are proved by.
+pub mod PackedLetters

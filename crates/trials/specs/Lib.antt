@@ -1,0 +1,2 @@
+-- What contracts cite of the functions that tests call.
+pub mod PackedBlocks
