@@ -2,7 +2,7 @@
 use mathlib.Core.Path.{_≡_, sym, _∙_, ap, ap₂}
 use mathlib.Core.List.{List}
 use Prim.Native.Nat.{ℕ, _+_, _-_, _*_, _/_, _%_, _^_, _≤_, _<_}
-use native.Mathlib.Nat.{add-zero}
+use native.Mathlib.Nat.{add-zero, add-mul-mod-self-right, mod-eq-of-lt}
 use native.Mathlib.Omega.{arith}
 use lib.ListN.{length, getD, drop, drop-of-length-le}
 use Rattle.words.specs.Word.{Word}
@@ -21,6 +21,33 @@ use Rattle.leads.proofs.Sliding.{blockFrom, block-start, block-front, b
 pub record InBlock (w : Word) (j i x y : ℕ) : Type 0 where
   pub here : x ≡ window w i
   pub behind : y ≡ window (blockFrom w (12 * j + 12)) (i - 12 * j)
+
+-- A block moved up by four bits, and what is moved back from it.
+pub record Moved (x : ℕ) : Type 0 where
+  pub whole : x % 16 ≡ 0
+  pub low : x / 16 < 2 ^ 60
+
+-- its first letter, and its second
+pub moved-first : (x : ℕ) → x / 16 / 2 ^ 55 ≡ x / 2 ^ 59
+moved-first x = omega arith
+
+pub moved-second : (x : ℕ) → x / 16 / 2 ^ 50 % 32 ≡ x / 2 ^ 54 % 32
+moved-second x = omega arith
+
+-- the first letter leaves 64 bits
+pub moved-out : (x : ℕ) → x % 16 ≡ 0 → x * 2 ^ 5 % 2 ^ 64 ≡ 16 * (x / 16 * 2 ^ 5 % 2 ^ 60)
+moved-out x h =
+    let a = x / 16 * 2 ^ 5 in
+    let r = a % 2 ^ 60 in
+    let k = a / 2 ^ 60 in
+    let split : x * 2 ^ 5 ≡ 16 * r + k * 2 ^ 64 = omega arith in
+    ap (λ (v : ℕ). v % 2 ^ 64) split ∙ add-mul-mod-self-right (16 * r) k (2 ^ 64) ∙ mod-eq-of-lt (omega arith)
+
+pub moved-back : (x k : ℕ) → x ≡ 16 * k → x / 16 ≡ k
+moved-back x k e = omega arith
+
+pub moved-up : (x k : ℕ) → k < 2 ^ 60 → x ≡ 16 * k → Moved x
+moved-up x k h e = record { whole = omega arith; low = omega arith }
 
 -- a letter more keeps within a block's bits
 pub next-lt : (x y : ℕ) → y < 2 ^ 60 → x * 2 ^ 5 % 2 ^ 60 + y / 2 ^ 55 < 2 ^ 60

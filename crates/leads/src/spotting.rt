@@ -8,7 +8,7 @@ use packing::part::window_at;
 ghost use mathlib.Core.Path.{_≡_};
 ghost use mathlib.Core.Bool.{false};
 ghost use mathlib.Core.List.{List};
-ghost use Prim.Native.Nat.{ℕ, _+_, _*_, _%_, _≤_, _<_, _^_, min};
+ghost use Prim.Native.Nat.{ℕ, _+_, _*_, _/_, _%_, _≤_, _<_, _^_, min};
 ghost use lib.ListN.{length, getD, take, drop};
 ghost use Rattle.words.specs.Word.{Word};
 ghost use Rattle.packedwords.specs.Packed.{Blocks, windowOf, unpacked, Packs};
@@ -16,13 +16,37 @@ ghost use Rattle.leads.specs.CodeIndex.{CodeIndexed};
 ghost use Rattle.leads.specs.CodeSearch.{Windowed, BegunFrom, SearchedBetween};
 ghost use Rattle.leads.specs.SpotOfWords.{seen, spotOfWords};
 
-// Whether some leading word may begin a word whose first twelve letters are x.
-fn may_begin(index: &[u64; 832], x: u64) -> bool
+// A block, moved up so that its first letter has the highest five of 64 bits: a letter that is then moved out leaves by itself.
+fn high(x: u64) -> u64
     requires { ⌜ x < 2 ^ 60 ⌝ }
-    ensures { λ r. ⌜ (r ≡ false → (y : ℕ) → BegunFrom (now (index .entry)) x y 0) ⌝ }
+    ensures { λ r. ⌜ r ≡ 16 * x ⌝ }
 {
-    let c = (x >> 55) as usize;
-    let d = (x >> 50) as usize % 32;
+    x << 4
+}
+
+// A block x so moved up, without its first letter.
+fn without_first(x: u64) -> u64
+    requires { ⌜ x % 16 ≡ 0 ⌝ }
+    ensures { λ r. ⌜ r ≡ 16 * (x / 16 * 2 ^ 5 % 2 ^ 60) ⌝ }
+{
+    x << 5
+}
+
+// The same, with the first letter of y, so moved up too, behind it.
+fn next_high(x: u64, y: u64) -> u64
+    requires { ⌜ (x % 16 ≡ 0) × (y / 16 < 2 ^ 60) ⌝ }
+    ensures { λ r. ⌜ r ≡ 16 * (x / 16 * 2 ^ 5 % 2 ^ 60 + y / 16 / 2 ^ 55) ⌝ }
+{
+    without_first(x) + (y >> 59) * 16
+}
+
+// Whether some leading word may begin a word whose first twelve letters are x, moved up.
+fn may_begin(index: &[u64; 832], x: u64) -> bool
+    requires { ⌜ x / 16 < 2 ^ 60 ⌝ }
+    ensures { λ r. ⌜ (r ≡ false → (y : ℕ) → BegunFrom (now (index .entry)) (x / 16) y 0) ⌝ }
+{
+    let c = (x >> 59) as usize;
+    let d = (x >> 54) as usize % 32;
     if (index[800 + c] >> d) % 2 == 0 {
         return false;
     }
@@ -64,13 +88,13 @@ fn begun_by(index: &[u64; 832], x: u64, word: &[u64], i: usize) -> u64
     begun | (left & index[768])
 }
 
-// The same, with the test of two letters first.
+// The same, with the test of two letters first; x is moved up.
 fn begun_at(index: &[u64; 832], x: u64, word: &[u64], i: usize) -> u64
-    requires { ⌜ (x < 2 ^ 60) × (i ≤ 72) × Windowed (now word) ⌝ }
-    ensures { λ r. ⌜ BegunFrom (now (index .entry)) x (windowOf (now (word .entry)) (i + 12)) r ⌝ }
+    requires { ⌜ (x / 16 < 2 ^ 60) × (i ≤ 72) × Windowed (now word) ⌝ }
+    ensures { λ r. ⌜ BegunFrom (now (index .entry)) (x / 16) (windowOf (now (word .entry)) (i + 12)) r ⌝ }
 {
     if may_begin(index, x) {
-        return begun_by(index, x, word, i);
+        return begun_by(index, x >> 4, word, i);
     }
     0
 }
@@ -88,14 +112,14 @@ fn block_behind(word: &[u64], j: usize) -> u64
 }
 
 // The leftmost place of a leading word from the first place of block j on, before place `end`. x has the letters from place i on, y those of the
-// block behind that are not yet in x.
+// block behind that are not yet in x, both moved up.
 fn spot_in_block(index: &[u64; 832], word: &[u64], j: usize, end: usize) -> Spotted
     requires { ⌜ (length (now word) ≡ 6) × Windowed (now word) ⌝ }
     requires { ⌜ (j < 6) × (12 * j ≤ end) × (end ≤ 12 * j + 12) ⌝ }
     ensures { λ r. ⌜ SearchedBetween (now (index .entry)) (now (word .entry)) (12 * j) end (seen r) ⌝ }
 {
-    let mut x = word[j];
-    let mut y = block_behind(word, j);
+    let mut x = high(word[j]);
+    let mut y = high(block_behind(word, j));
     let mut i = 12 * j;
     while i < end {
         let begun = begun_at(index, x, word, i);
@@ -103,8 +127,8 @@ fn spot_in_block(index: &[u64; 832], word: &[u64], j: usize, end: usize) -> Spot
             let number = lowest(begun) + 1;
             return Spotted::Found { place: i, number };
         }
-        x = up(x, 5) + (y >> 55);
-        y = up(y, 5);
+        x = next_high(x, y);
+        y = without_first(y);
         i += 1;
     }
     Spotted::Nowhere

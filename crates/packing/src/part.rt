@@ -3,8 +3,8 @@
 use crate::block::down;
 use crate::block::up;
 ghost use mathlib.Core.Path.{_≡_};
-ghost use Prim.Native.Nat.{_-_, _≤_, _<_, _^_};
-ghost use lib.ListN.{length, getD, take, drop, replicate};
+ghost use Prim.Native.Nat.{_+_, _-_, _≤_, _<_, _^_};
+ghost use lib.ListN.{length, getD, set, take, drop, replicate};
 ghost use Rattle.packedwords.specs.Packed.{Blocks, windowOf, front, unpacked, Packs};
 
 // Block j of w, and 0 where there is none.
@@ -88,6 +88,23 @@ pub fn left_part(dst: &mut [u64; 6], src: &[u64; 6], m: usize, i: usize)
     }
 }
 
+// Puts the twelve letters of src from place i on, and the twelve behind them, into the first two blocks of dst. The place is divided once for both.
+fn two_windows(dst: &mut [u64; 6], src: &[u64; 6], i: usize)
+    requires { ⌜ (i ≤ 24) × Blocks (now src) × (length (now src) ≡ 6) × (length (now dst) ≡ 6) ⌝ }
+    ensures { λ _. ⌜
+        now (dst .exit) ≡ set (set (now (dst .entry)) 0 (windowOf (now (src .entry)) i)) 1 (windowOf (now (src .entry)) (i + 12))
+        ⌝ }
+{
+    let q = i / 12;
+    let s = i % 12 * 5;
+    let t = 60 - s;
+    let x = src[q];
+    let y = src[q + 1];
+    let z = src[q + 2];
+    dst[0] = up(x, s) + down(y, t);
+    dst[1] = up(y, s) + down(z, t);
+}
+
 // Puts the letters from place i on of the word of m letters in src into dst; of a word of at most 24 letters without a loop, as in `left_part`.
 pub fn right_part(dst: &mut [u64; 6], src: &[u64; 6], m: usize, i: usize)
     requires { ⌜ (i ≤ m) × (m ≤ 72) × (length (now dst) ≡ 6) × (length (now src) ≡ 6) ⌝ }
@@ -97,8 +114,7 @@ pub fn right_part(dst: &mut [u64; 6], src: &[u64; 6], m: usize, i: usize)
 {
     clear(dst);
     if m <= 24 {
-        dst[0] = window_at(src, i);
-        dst[1] = window_at(src, i + 12);
+        two_windows(dst, src, i);
         return;
     }
     let mut j = 0;

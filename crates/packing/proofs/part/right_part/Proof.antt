@@ -1,8 +1,9 @@
 -- `right_part` puts the letters from a place on. The loop's invariant: the first j blocks are those of the part, and zeros follow.
 use mathlib.Core.Path.{_≡_, _∙_, ap}
+use mathlib.Core.List.{List}
 use Prim.Native.Nat.{ℕ, _+_, _-_, _*_, _≤_}
 use native.Mathlib.Omega.{arith}
-use lib.ListN.{drop, length-drop}
+use lib.ListN.{length, drop, replicate, length-drop, length-replicate}
 use Rattle.packedwords.specs.Packed.{windowOf, unpacked}
 use Rattle.packedwords.proofs.Packing.{unpacked-codes, unpacked-length}
 use Rattle.packedwords.proofs.Blocks.{packs-blocks}
@@ -11,6 +12,10 @@ use Rattle.packing.proofs.Filling.{Filled, filled-none, filled-more, fi
 use borrow.Author.Needs.{needs}
 use Rattle.packing.proofs.part.right_part.Statement.{statement}
 use Rattle.packing.proofs.part.right_part.Tie as tie
+
+-- what is cleared has six blocks
+six-zeros : {d : List ℕ} → d ≡ replicate 6 0 → length d ≡ 6
+six-zeros e = let none : ℕ = 0 in ap length e ∙ length-replicate 6 none
 
 abbrev Inv-loop : tie.InvT-loop
 Inv-loop dst₀ src m i j₀ k₀ dst j k =
@@ -22,54 +27,43 @@ abbrev μ-loop : tie.MeasureT-loop
 clear-requires : tie.Need-clear-requires Inv-loop μ-loop
 clear-requires c κs = search needs
 
-window-at-requires : tie.Need-window-at-requires Inv-loop μ-loop
-window-at-requires c κs =
+two-windows-requires : tie.Need-two-windows-requires Inv-loop μ-loop
+two-windows-requires c κs =
     let s = c .before .before .before .before in
-    packs-blocks (s .args .m) (s .args .src .now) (s .pre .1)
-
-element-write-dst : tie.Need-element-write-dst Inv-loop μ-loop
-element-write-dst c = search needs
-
-add-window-at : tie.Need-add-window-at Inv-loop μ-loop
-add-window-at c = search needs
-
-window-at-requires-2 : tie.Need-window-at-requires-2 Inv-loop μ-loop
-window-at-requires-2 c κs =
-    let s = c .before .before .before .before .before .before in
-    packs-blocks (s .args .m) (s .args .src .now) (s .pre .1)
-
-element-write-dst-2 : tie.Need-element-write-dst-2 Inv-loop μ-loop
-element-write-dst-2 c = search needs
+    let e = c .before .before .clear .ensures in
+    let l = s .pre .0 .0 in
+    let m = c .before .if1 .taken in
+    (omega arith, packs-blocks (s .args .m) (s .args .src .now) (s .pre .1), s .pre .0 .3, six-zeros e)
 
 returns : tie.Need-returns Inv-loop μ-loop
 returns c =
-    let cleared = c .before .before .before .before .before in
+    let cleared = c .before .before .before in
     let s = cleared .before .before in
     let m = s .args .m in
     let i = s .args .i in
     let S = s .args .src .now in
     let w = unpacked m S in
-    let short : m - i ≤ 24 = omega (arith, c .before .before .before .before .if1 .taken) in
+    let short : m - i ≤ 24 = omega (arith, c .before .before .if1 .taken) in
     let size = length-drop i w ∙ ap (λ (x : ℕ). x - i) (unpacked-length m S) in
     let none : i ≡ i + 0 = omega arith in
-    let first = c .before .before .window-at .ensures ∙ ap (windowOf S) none ∙ right-block m S (s .pre .1) i 0 in
-    let second = c .window-at2 .ensures ∙ right-block m S (s .pre .1) i 12 in
+    let first = ap (windowOf S) none ∙ right-block m S (s .pre .1) i 0 in
+    let second = right-block m S (s .pre .1) i 12 in
     let p = two-filled (drop i w) (m - i) _ _ _ (cleared .clear .ensures) (codes-drop i w (unpacked-codes m S)) size short first second in
-    ((p .0, p .1), p .2)
+    rw (c .two-windows .ensures) ((p .0, p .1), p .2)
 
 loop-holds : tie.Need-loop-holds Inv-loop μ-loop
 loop-holds c = (omega arith, filled-none _ _ (c .before .clear .ensures))
 
-window-at-requires-3 : tie.Need-window-at-requires-3 Inv-loop μ-loop
-window-at-requires-3 c κs =
+window-at-requires : tie.Need-window-at-requires Inv-loop μ-loop
+window-at-requires c κs =
     let s = c .before .before .before .before .before .before in
     packs-blocks (s .args .m) (s .args .src .now) (s .pre .1)
 
 mul-dst : tie.Need-mul-dst Inv-loop μ-loop
 mul-dst c = search needs
 
-element-write-dst-3 : tie.Need-element-write-dst-3 Inv-loop μ-loop
-element-write-dst-3 c = search needs
+element-write-dst : tie.Need-element-write-dst Inv-loop μ-loop
+element-write-dst c = search needs
 
 add-j : tie.Need-add-j Inv-loop μ-loop
 add-j c = search needs
@@ -86,7 +80,7 @@ loop-again c =
     let s = l .before .before .before .before in
     let S = s .args .src .now in
     let j = l .loop .j in
-    let block = c .window-at3 .ensures ∙ ap (windowOf S) (l .loop .inv .0) ∙ right-block (s .args .m) S (s .pre .1) (s .args .i) (12 * j) in
+    let block = c .window-at .ensures ∙ ap (windowOf S) (l .loop .inv .0) ∙ right-block (s .args .m) S (s .pre .1) (s .args .i) (12 * j) in
     (omega arith, filled-more _ j _ _ (l .loop .inv .1) (omega (arith, l .loop .inv .0, c .before .before .loop-test .taken)) block)
 
 returns-2 : tie.Need-returns-2 Inv-loop μ-loop
@@ -111,16 +105,12 @@ right-part-spec =
     Inv-loop
     μ-loop
     clear-requires
-    window-at-requires
-    element-write-dst
-    add-window-at
-    window-at-requires-2
-    element-write-dst-2
+    two-windows-requires
     returns
     loop-holds
-    window-at-requires-3
+    window-at-requires
     mul-dst
-    element-write-dst-3
+    element-write-dst
     add-j
     add-k
     loop-less
