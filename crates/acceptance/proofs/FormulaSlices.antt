@@ -9,7 +9,6 @@ use Rattle.field.specs.Field.{fieldOf}
 use Rattle.lists.specs.All.{All}
 use Rattle.words.specs.Laid.{Laid}
 use Rattle.words.specs.Order.{wordOrder}
-use Rattle.lists.proofs.Every.{all-map}
 use Rattle.words.proofs.LaidWords.{laid-word-length}
 use Rattle.algebra.specs.Poly.{Poly}
 use Rattle.algebra.specs.Written.{Written}
@@ -55,10 +54,6 @@ module _ (p letters : ℕ) (m : Limits) (s cs os ls : List ℕ) (n : ℕ) (seen 
 
   held-bounded : All (λ t. (t .coef < p) × (length (t .word) ≤ m .len)) held
   held-bounded = rows-bounded p letters m held (formula-reads p letters m s held formula-held .0)
-
-  -- Its words have at most as many letters as the limits allow.
-  pub held-short : All (λ t. length (t .word) ≤ m .len) (polyAt (take n cs) (take n os) (take n ls) s)
-  held-short = all-map (λ t b. b .1) held-bounded
 
   -- The slices are well formed where the limits allow no more than 24 letters.
   pub held-given : n ≤ length os → n ≤ length ls → WordsInside s os ls n → m .len ≤ 24 → Given p (take n cs) (take n os) (take n ls) s

@@ -1,22 +1,19 @@
--- What a package that reads holds: its polynomials are in written form and in its letters, and so are the words of its sum lines; its basis is in bounds.
-use mathlib.Core.Path.{_≡_, refl, sym, _∙_, ap}
-use mathlib.Core.Bool.{Bool, true, false}
-use mathlib.Core.Logic.{_≢_, _⊎_, inl, inr}
+-- What a package that reads holds: its polynomials are in written form and in its letters, and so are the words of its sum lines.
+use mathlib.Core.Path.{_≡_, refl, _∙_}
+use mathlib.Core.Logic.{_⊎_, inl, inr}
 use mathlib.Core.List.{List, [], _∷_}
-use Prim.Native.Nat.{ℕ, zero, suc, _+_, _≤_, _<_}
+use Prim.Native.Nat.{ℕ, zero, suc, _<_}
 use native.Mathlib.Decide.{ℕ-discrete}
 use native.Mathlib.Omega.{arith}
-use lib.Dec.{eqb, ltb}
-use lib.ListN.{length}
-use borrow.Author.Tests.{eq-eqb, ne-eqb, ltb-false}
+use borrow.Author.Tests.{eq-eqb, ne-eqb}
 use Rattle.field.specs.Field.{Field, fieldOf}
 use Rattle.field.proofs.Fields.{fieldOf-field, element-of}
 use Rattle.lists.specs.All.{All, done, _also_}
-use Rattle.words.specs.Word.{Word, Letter}
+use Rattle.words.specs.Word.{Letter}
 use Rattle.words.specs.Order.{Lt, wordOrder}
 use Rattle.lists.proofs.Every.{all-map}
 use Rattle.words.proofs.WordOrder.{word-order-admissible}
-use Rattle.algebra.specs.Poly.{Term, Poly, InLetters}
+use Rattle.algebra.specs.Poly.{Poly, InLetters}
 use Rattle.algebra.specs.Written as W
 use Rattle.algebra.specs.Written.{Written}
 use Rattle.algebra.specs.Ideal.{Over}
@@ -27,9 +24,8 @@ use Rattle.package.specs.Items.{itemTerms}
 use Rattle.package.specs.Terms.{TermLine, LineAbove}
 use Rattle.package.specs.Sums.{SumLine}
 use Rattle.package.specs.Package.{Package, packageLimits}
-use Rattle.package.specs.Readable.{under, TermInOrder, TermsInOrder, noTerms, termThen, SumInOrder, SumsInOrder, noSums, sumThen, Readable}
+use Rattle.package.specs.Readable.{under, TermInOrder, TermsInOrder, noTerms, termThen, SumsInOrder, noSums, sumThen, Readable}
 use Rattle.package.proofs.FieldNumbers.{fits-iff, means-prime}
-use Rattle.package.proofs.LineBounds.{head-bounds}
 use Rattle.acceptance.specs.Content.{termsOf, polynomial, polynomials, relations, basis, lineOf}
 use Rattle.acceptance.proofs.LineFacts.{TermBounds, term-bounds, Follows, follows-is, sum-bounds}
 
@@ -132,27 +128,11 @@ module _ (k i : ℕ) where
             (W.term {t = record { coef = t .coef; word = t .word }} (element-of (h .p) (b .small)) (λ z. let q = b .some in omega arith) (below (e .0) (e .1)) w, b .letters also l)
         go (no e) below r = rw (item-other t ts e) r
 
-    -- and its words are short
-    item-short : {a : LineAbove} {n : ℕ} (ts : List TermLine) → TermsInOrder h m a n ts → All (λ t. length (t .word) ≤ m .len) (termsOf (itemTerms k i ts))
-    unfolding termsOf itemTerms
-    item-short [] noTerms = done
-    item-short (t ∷ ts) (termThen o os) = go (is-item t) (item-short ts os)
-      where
-        go : Dec ((t .kind ≡ k) × (t .item ≡ i)) → All (λ s. length (s .word) ≤ m .len) (termsOf (itemTerms k i ts))
-            → All (λ s. length (s .word) ≤ m .len) (termsOf (itemTerms k i (t ∷ ts)))
-        go (yes e) r = rw (item-here t ts (e .0) (e .1)) (term-bounds h m (t .kind) (t .item) (t .coef) (t .word) (o .fits) .short also r)
-        go (no e) r = rw (item-other t ts e) r
-
 -- polynomials of one kind have what each of them has
 polynomials-all : (P : Poly → Type 0) (k : ℕ) (ts : List TermLine) → ((i : ℕ) → P (polynomial k i ts)) → (i n : ℕ) → All P (polynomials k ts i n)
 unfolding polynomials
 polynomials-all P k ts h i zero = done
 polynomials-all P k ts h i (suc n) = h i also polynomials-all P k ts h (suc i) n
-
-polynomials-length : (k : ℕ) (ts : List TermLine) (i n : ℕ) → length (polynomials k ts i n) ≡ n
-unfolding polynomials
-polynomials-length k ts i zero = refl
-polynomials-length k ts i (suc n) = ap suc (polynomials-length k ts (suc i) n)
 
 sums-over : (h : Head) (m : Limits) {k i n : ℕ} (ss : List SumLine) → SumsInOrder h m k i n ss → All (λ s. Over (Letter (h .letters)) (lineOf s)) ss
 sums-over h m [] noSums = done
@@ -184,16 +164,6 @@ module _ (P : Package) (r : Readable P) where
   pub basis-letters : All (InLetters (Letter (P .head .letters))) (basis P)
   unfolding basis
   basis-letters = polynomials-all (InLetters (Letter (P .head .letters))) termB (P .terms) (λ i. item-both termB i .1) 1 (P .head .basis)
-
-  -- words of the basis have at most 24 letters
-  pub basis-short : All (λ f. All (λ t. length (t .word) ≤ 24) f) (basis P)
-  unfolding basis polynomial
-  basis-short = polynomials-all (λ f. All (λ t. length (t .word) ≤ 24) f) termB (P .terms) (λ i. item-short termB i (P .head) packageLimits (P .terms) (r .terms)) 1 (P .head .basis)
-
-  -- the basis has at most 64 polynomials
-  pub basis-few : length (basis P) ≤ 64
-  unfolding basis
-  basis-few = rw (polynomials-length termB (P .terms) 1 (P .head .basis)) (head-bounds (P .head) (r .field) (r .counts) .basis)
 
   pub sums-letters : All (λ s. Over (Letter (P .head .letters)) (lineOf s)) (P .sums)
   sums-letters = sums-over (P .head) packageLimits (P .sums) (r .sums)

@@ -103,13 +103,3 @@ module _ (starts lens bytes : List ℕ) (n : ℕ) where
         rw found-word
         (line-length k (overlapOf c) (laidWord starts lens bytes (c .first)) (laidWord starts lens bytes (c .second)) (c .shared) (omega arith)
         ∙ ap₂ (λ (x y : ℕ). lineLength k (overlapOf c) (x + (y - c .shared))) p q)
-
-    -- what its line asks
-    pub found-asked : n ≤ 64 → c .shared < getD lens (c .first) 0 → c .shared < getD lens (c .second) 0
-        → (k at : ℕ) (out : List ℕ) → at + length (listLine k (overlapOf c) (listWord (laidWords starts lens bytes n) (overlapOf c))) ≤ length out
-        → ((c .first < 64) × (c .second < 64) × (c .shared ≤ length (laidWord starts lens bytes (c .second))) × (1 ≤ length (laidWord starts lens bytes (c .first))))
-        × (at + length (listLine k (overlapOf c) (overlapJoined (laidWord starts lens bytes (c .first)) (laidWord starts lens bytes (c .second)) (c .shared))) ≤ length out)
-    found-asked f x y k at out l =
-        let p = laid-word-length starts lens bytes n h (c .first) a in
-        let q = laid-word-length starts lens bytes n h (c .second) b in
-        ((omega arith, omega arith, omega arith, omega arith), rw found-word at l)

@@ -1,18 +1,20 @@
 -- The lines of the overlap list written up to a place: storing those that are left gives what storing all gives.
-use mathlib.Core.Path.{_≡_, _∙_}
+use mathlib.Core.Path.{_≡_, _∙_, ap}
 use mathlib.Core.List.{List, [], _++_}
-use Prim.Native.Nat.{ℕ, suc, _+_, _≤_}
+use Prim.Native.Nat.{ℕ, suc, _+_, _≤_, _<_}
 use native.Mathlib.Numerals.{add-one}
 use native.Mathlib.Omega.{arith}
-use lib.ListN.{length, length-append}
+use lib.ListN.{length, getD, length-append}
 use lib.Seq.{sets, length-sets}
-use Rattle.words.specs.Laid.{laidWords, Laid}
+use Rattle.words.specs.Laid.{laidWord, laidWords, WordInside, Laid}
+use Rattle.words.proofs.LaidWords.{word-inside}
 use Rattle.lists.proofs.Stores.{sets-append}
 use Rattle.overlaps.specs.declared.Cursor.{Cursor}
+use Rattle.overlaps.specs.Overlaps.{overlapJoined}
 use Rattle.overlaps.specs.Position.{overlapsAt, overlapOf, behind, origin, ordinal, AtMost24}
 use Rattle.overlaps.specs.Listing.{listWord, listLine, overlapLines, allLines}
 use Rattle.overlaps.proofs.Positions.{at-origin}
-use Rattle.listmeasuring.proofs.Walking.{Walking, Step, walking-start}
+use Rattle.listmeasuring.proofs.Walking.{Walking, Step, walking-start, found-word}
 
 pub record Writing (starts lens bytes : List ℕ) (n : ℕ) (out₀ : List ℕ) (at : ℕ) (out : List ℕ) (place : ℕ) (from : Cursor) (k : ℕ) : Type 0 where
   pub walking : Walking starts lens bytes n from
@@ -53,13 +55,34 @@ module _ (starts lens bytes : List ℕ) (n : ℕ) (out₀ : List ℕ) (at : ℕ)
       unfolding overlapLines
       whole = rw (s .left) at (h .size)
 
-      pub line-fits : place + length line ≤ length out
-      line-fits = let a = whole in let b = h .fits in omega (arith, length-append line others)
+      -- the line as the words lie in the bytes
+      abbrev laid-line : List ℕ
+      laid-line = listLine k (overlapOf c) (overlapJoined (laidWord starts lens bytes (c .first)) (laidWord starts lens bytes (c .second)) (c .shared))
 
-      pub writing-next : (out' : List ℕ) (place' : ℕ) → (place' ≡ place + length line) × (out' ≡ sets out place line)
+      line-is : line ≡ laid-line
+      line-is = ap (listLine k (overlapOf c)) (found-word starts lens bytes n (h .walking .laid) c (s .first-in) (s .second-in))
+
+      fits-line : place + length line ≤ length out
+      fits-line = let a = whole in let b = h .fits in omega (arith, length-append line others)
+
+      -- what `put_overlap` asks
+      pub line-asked : (WordInside starts lens bytes (c .first) × WordInside starts lens bytes (c .second))
+          × (((c .first < 64) × (c .second < 64) × (c .shared ≤ getD lens (c .second) 0) × (1 ≤ getD lens (c .first) 0))
+          × (place + length laid-line ≤ length out))
+      line-asked =
+          let l = h .walking .laid in
+          let x = s .below-first in
+          let y = s .below-second in (
+            (word-inside starts lens bytes n l (c .first) (s .first-in), word-inside starts lens bytes n l (c .second) (s .second-in)),
+            ((s .first-few, s .second-few, omega arith, omega arith), rw line-is at fits-line),
+          )
+
+      pub writing-next : (out' : List ℕ) (place' : ℕ) → (place' ≡ place + length laid-line) × (out' ≡ sets out place laid-line)
           → Writing starts lens bytes n out₀ at out' place' (behind c) (k + 1)
       unfolding overlapLines
-      writing-next out' place' (p, q) =
+      writing-next out' place' (p₀, q₀) =
+          let p : place' ≡ place + length line = rw line-is p₀ in
+          let q : out' ≡ sets out place line = rw line-is q₀ in
           let a = whole in
           let b = h .number in
           let d = s .further in

@@ -9,10 +9,10 @@ ghost use mathlib.Core.List.{[]};
 ghost use Prim.Native.Nat.{_+_, _≤_, _<_};
 ghost use lib.ListN.{length, getD};
 ghost use lib.Seq.{sets};
-ghost use Rattle.words.specs.Laid.{laidWords, Laid};
+ghost use Rattle.words.specs.Laid.{laidWord, laidWords, WordInside, Laid};
 ghost use Rattle.overlaps.specs.Overlaps.{overlapJoined};
 ghost use Rattle.overlaps.specs.Position.{overlapOf, AtMost24};
-ghost use Rattle.overlaps.specs.Listing.{spaced, listWord, listLine, allLines, overlapText};
+ghost use Rattle.overlaps.specs.Listing.{spaced, listLine, allLines, overlapText};
 
 // A number and a space behind it, written to out from the place at on. The answer is the place behind them.
 fn put_spaced(out: &mut [u8], at: usize, n: usize) -> usize
@@ -64,17 +64,33 @@ fn put_overlap(
     starts: &[usize],
     lens: &[usize],
     bytes: &[u8],
-    n: usize,
     c: Cursor,
     k: usize,
     out: &mut [u8],
     at: usize,
 ) -> usize
-    requires { ⌜ Laid (now starts) (now lens) (now bytes) n ⌝ }
-    requires { ⌜ (n ≤ 64) × (c .first < n) × (c .second < n) × (c .shared < getD (now lens) (c .first) 0) × (c .shared < getD (now lens) (c .second) 0) ⌝ }
-    requires { ⌜ at + length (listLine k (overlapOf c) (listWord (laidWords (now starts) (now lens) (now bytes) n) (overlapOf c))) ≤ length (now out) ⌝ }
-    ensures { λ r. ⌜ r ≡ at + length (listLine k (overlapOf c) (listWord (laidWords (now (starts .entry)) (now (lens .entry)) (now (bytes .entry)) n) (overlapOf c))) ⌝ }
-    ensures { λ _. ⌜ now (out .exit) ≡ sets (now (out .entry)) at (listLine k (overlapOf c) (listWord (laidWords (now (starts .entry)) (now (lens .entry)) (now (bytes .entry)) n) (overlapOf c))) ⌝ }
+    requires { ⌜ WordInside (now starts) (now lens) (now bytes) (c .first) × WordInside (now starts) (now lens) (now bytes) (c .second) ⌝ }
+    requires { ⌜ (c .first < 64) × (c .second < 64) × (c .shared ≤ getD (now lens) (c .second) 0) × (1 ≤ getD (now lens) (c .first) 0) ⌝ }
+    requires { ⌜
+        at
+        + length (listLine k (overlapOf c)
+        (overlapJoined (laidWord (now starts) (now lens) (now bytes) (c .first)) (laidWord (now starts) (now lens) (now bytes) (c .second)) (c .shared)))
+        ≤ length (now out)
+        ⌝ }
+    ensures { λ r. ⌜
+        r
+        ≡ at
+        + length (listLine k (overlapOf c)
+        (overlapJoined (laidWord (now (starts .entry)) (now (lens .entry)) (now (bytes .entry)) (c .first))
+        (laidWord (now (starts .entry)) (now (lens .entry)) (now (bytes .entry)) (c .second)) (c .shared)))
+        ⌝ }
+    ensures { λ _. ⌜
+        now (out .exit)
+        ≡ sets (now (out .entry)) at
+        (listLine k (overlapOf c)
+        (overlapJoined (laidWord (now (starts .entry)) (now (lens .entry)) (now (bytes .entry)) (c .first))
+        (laidWord (now (starts .entry)) (now (lens .entry)) (now (bytes .entry)) (c .second)) (c .shared)))
+        ⌝ }
 {
     let first = c.first;
     let second = c.second;
@@ -112,7 +128,7 @@ fn write_lines(
         let Next::Overlap(c) = next else {
             return place;
         };
-        place = put_overlap(starts, lens, bytes, n, c, k, out, place);
+        place = put_overlap(starts, lens, bytes, c, k, out, place);
         from = place_behind(c);
         k += 1;
     }

@@ -1,17 +1,17 @@
 -- The search for the next overlap, from place c₀, has come to place c: what is left from c on is what was left from c₀ on.
 use mathlib.Core.Path.{_≡_, refl, sym, _∙_, ap}
-use mathlib.Core.List.{List, [], _∷_}
+use mathlib.Core.List.{List, []}
 use Prim.Native.Nat.{ℕ, suc, _+_, _-_, _*_, _≤_, _<_}
 use native.Mathlib.Decide.{decLt}
 use native.Mathlib.Omega.{arith}
 use lib.ListN.{length, getD}
 use borrow.Author.Tests.{lt-ltb, le-ltb}
 use Rattle.words.specs.declared.Found.the-variants.{At, Nowhere}
-use Rattle.words.specs.Laid.{laidWord, laidWords, Laid}
-use Rattle.words.proofs.LaidWords.{laid-length, laid-at, laid-word-length}
+use Rattle.words.specs.Laid.{laidWord, laidWords, WordInside, Laid}
+use Rattle.words.proofs.LaidWords.{laid-length, laid-at, word-inside, laid-word-length}
 use Rattle.overlaps.specs.declared.Cursor.{Cursor}
 use Rattle.overlaps.specs.declared.Next.the-variants.{Overlap, Done}
-use Rattle.overlaps.specs.Position.{sharedBy, overlapsAt, seenOverlap, pairAfter, ordinal, Placed, AtMost24, FoundAt, Ahead}
+use Rattle.overlaps.specs.Position.{sharedBy, overlapsAt, seenOverlap, pairAfter, ordinal, Placed, AtMost24, Ahead}
 use Rattle.overlaps.proofs.Positions.{at-found, found-bounds, at-next, at-end}
 
 pub record Searching (starts lens bytes : List ℕ) (n : ℕ) (c₀ c : Cursor) : Type 0 where
@@ -55,6 +55,10 @@ module _ (starts lens bytes : List ℕ) (n : ℕ) (c₀ : Cursor) where
 
       pub both-in : (c .first < n) × (c .second < n)
       both-in = (l, second-in)
+
+      pub both-inside : WordInside starts lens bytes (c .first) × WordInside starts lens bytes (c .second)
+      both-inside =
+          (word-inside starts lens bytes n (h .laid) (c .first) l, word-inside starts lens bytes n (h .laid) (c .second) second-in)
 
       pub pair-falls : 4096 - (pairAfter c n .first * 64 + pairAfter c n .second) < 4096 - (c .first * 64 + c .second)
       pair-falls = further n c (h .few) (h .placed) l .falls

@@ -4,9 +4,8 @@ use crate::Cursor;
 use crate::Next;
 use crate::shared::next_shared;
 ghost use mathlib.Core.Path.{_≡_};
-ghost use Prim.Native.Nat.{ℕ, _+_, _*_, _≤_, _<_};
-ghost use lib.ListN.{length, getD};
-ghost use Rattle.words.specs.Laid.{laidWord, laidWords, Laid};
+ghost use Prim.Native.Nat.{_+_, _≤_, _<_};
+ghost use Rattle.words.specs.Laid.{laidWord, laidWords, WordInside, Laid};
 ghost use Rattle.overlaps.specs.Position.{sharedBy, overlapsAt, seenOverlap, behind, pairAfter, Placed, AtMost24, Ahead};
 
 // The pair of leading words behind a pair.
@@ -31,9 +30,8 @@ fn next_pair(c: Cursor, n: usize) -> Cursor
 }
 
 // The next number of letters that the two words of a place share.
-fn shared_at(starts: &[usize], lens: &[usize], bytes: &[u8], n: usize, c: Cursor) -> words::Found
-    requires { ⌜ Laid (now starts) (now lens) (now bytes) n ⌝ }
-    requires { ⌜ (c .first < n) × (c .second < n) ⌝ }
+fn shared_at(starts: &[usize], lens: &[usize], bytes: &[u8], c: Cursor) -> words::Found
+    requires { ⌜ WordInside (now starts) (now lens) (now bytes) (c .first) × WordInside (now starts) (now lens) (now bytes) (c .second) ⌝ }
     ensures { λ r. ⌜ r ≡ sharedBy (laidWord (now (starts .entry)) (now (lens .entry)) (now (bytes .entry)) (c .first)) (laidWord (now (starts .entry)) (now (lens .entry)) (now (bytes .entry)) (c .second)) (c .shared) ⌝ }
 {
     let first = c.first;
@@ -54,7 +52,7 @@ pub fn next_overlap(starts: &[usize], lens: &[usize], bytes: &[u8], n: usize, fr
 {
     let mut c = from;
     while c.first < n {
-        let found = shared_at(starts, lens, bytes, n, c);
+        let found = shared_at(starts, lens, bytes, c);
         if let words::Found::At(s) = found {
             return Next::Overlap(Cursor {
                 first: c.first,

@@ -1,8 +1,7 @@
 -- What follows of any admissible order.
-use mathlib.Core.Path.{_≡_, refl, sym, _∙_}
+use mathlib.Core.Path.{_≡_, refl, _∙_}
 use mathlib.Core.Logic.{_≢_, _⊎_, inl, inr}
-use mathlib.Core.List.{[], _++_}
-use mathlib.Core.WellFounded.{Acc, Acc·intro}
+use mathlib.Core.List.{_++_}
 use Prim.Native.Nat.{ℕ}
 use native.Mathlib.Omega.{arith}
 use Rattle.words.specs.declared.Comparison.{Comparison}
@@ -33,9 +32,6 @@ module _ {O : Order} (A : Admissible O) where
   pub lt-of-above : (u v : Word) → O u v ≡ Above → Lt O v u
   unfolding opposite
   lt-of-above u v e = A .flip u v ∙ rw e
-
-  pub equal-of-eq : (u v : Word) → u ≡ v → O u v ≡ Equal
-  equal-of-eq u v e = rw e (order-refl v)
 
   -- below, equal or above, with what each means
   pub trichotomy : (u v : Word) → Lt O u v ⊎ ((u ≡ v) ⊎ Lt O v u)

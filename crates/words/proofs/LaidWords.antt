@@ -1,13 +1,11 @@
 -- The words that lie in bytes, as a list: its length, and its entries.
 use mathlib.Core.Path.{_≡_, refl, sym, _∙_, ap}
-use mathlib.Core.List.{List, [], _∷_}
-use Prim.Native.Nat.{ℕ, zero, suc, _+_, _≤_, _<_}
+use mathlib.Core.List.{List, []}
+use Prim.Native.Nat.{ℕ, zero, suc, _+_, _<_}
 use native.Mathlib.Nat.{add-zero}
 use native.Mathlib.Omega.{arith}
-use lib.ListN.{length, getD, take, drop, length-take, length-drop}
-use Rattle.lists.specs.All.{All, done, _also_}
-use Rattle.words.specs.Word.{Word}
-use Rattle.words.specs.Laid.{laidWord, laidFrom, laidWords, Laid}
+use lib.ListN.{length, getD, length-take, length-drop}
+use Rattle.words.specs.Laid.{laidWord, laidFrom, laidWords, WordInside, Laid}
 
 module _ (starts lens bytes : List ℕ) where
   from-length : (g n : ℕ) → length (laidFrom starts lens bytes g n) ≡ n
@@ -31,5 +29,14 @@ module _ (starts lens bytes : List ℕ) where
   unfolding laidWords
   laid-at n k h = let e : 0 + k ≡ k = omega arith in from-at 0 n k h ∙ ap (laidWord starts lens bytes) e
 
+  pub word-inside : (n : ℕ) → Laid starts lens bytes n → (k : ℕ) → k < n → WordInside starts lens bytes k
+  word-inside n h k l =
+      let s = h .starting in
+      let e = h .ending in
+      record { starting = omega arith; ending = omega arith; inside = h .inside k l }
+
+  pub inside-length : (k : ℕ) → WordInside starts lens bytes k → length (laidWord starts lens bytes k) ≡ getD lens k 0
+  inside-length k h = simp (length-take, length-drop) (omega (arith, h .inside))
+
   pub laid-word-length : (n : ℕ) → Laid starts lens bytes n → (k : ℕ) → k < n → length (laidWord starts lens bytes k) ≡ getD lens k 0
-  laid-word-length n h k l = simp (length-take, length-drop) (omega (arith, h .inside k l))
+  laid-word-length n h k l = inside-length k (word-inside n h k l)

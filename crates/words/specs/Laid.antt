@@ -18,6 +18,12 @@ unfoldable pub laidWords : List ℕ → List ℕ → List ℕ → ℕ → List W
 unfolding laidFrom
 laidWords starts lens bytes n = laidFrom starts lens bytes 0 n
 
+-- Word g has a start and a length, and lies inside the bytes.
+pub record WordInside (starts lens bytes : List ℕ) (g : ℕ) : Type 0 where
+  pub starting : g < length starts
+  pub ending : g < length lens
+  pub inside : getD starts g 0 + getD lens g 0 ≤ length bytes
+
 -- Each of the first n words has a start and a length, and lies inside the bytes.
 pub record Laid (starts lens bytes : List ℕ) (n : ℕ) : Type 0 where
   pub starting : n ≤ length starts

@@ -1,7 +1,7 @@
 -- `put_overlap`: the line of two of the leading words, which lie inside the bytes.
 use native.Mathlib.Omega.{arith}
 use Rattle.lists.proofs.Parts.{part-end}
-use Rattle.listmeasuring.proofs.Walking.{found-word, found-asked}
+use Rattle.words.proofs.LaidWords.{inside-length}
 use borrow.Author.Needs.{needs}
 use Rattle.listwriting.proofs.listing.put_overlap.Statement.{statement}
 use Rattle.listwriting.proofs.listing.put_overlap.Tie as tie
@@ -27,7 +27,7 @@ shared-slice-read-e c = search needs
 add-e : tie.Need-add-e
 add-e c =
     let s = c .before .before .before .before .before .before .before in
-    omega (arith, s .pre .0 .inside (s .args .c .first) (s .pre .1 .0 .1))
+    omega (arith, s .pre .0 .0 .inside)
 
 mul-f : tie.Need-mul-f
 mul-f c = search needs
@@ -38,7 +38,7 @@ shared-slice-read-f c = search needs
 add-f : tie.Need-add-f
 add-f c =
     let s = c .before .before .before .before .before .before .before .before in
-    omega (arith, s .pre .0 .inside (s .args .c .second) (s .pre .1 .0 .2))
+    omega (arith, s .pre .0 .1 .inside)
 
 sub-put-line : tie.Need-sub-put-line
 sub-put-line c = search needs
@@ -49,7 +49,7 @@ part-put-line-start c = search needs
 part-put-line-end : tie.Need-part-put-line-end
 part-put-line-end c =
     let s = c .before .before .before .before .before .before .before .before .before in
-    omega (arith, s .pre .0 .inside (s .args .c .first) (s .pre .1 .0 .1))
+    omega (arith, s .pre .0 .0 .inside)
 
 sub-put-line-2 : tie.Need-sub-put-line-2
 sub-put-line-2 c = search needs
@@ -60,22 +60,21 @@ part-put-line-start-2 c = search needs
 part-put-line-end-2 : tie.Need-part-put-line-end-2
 part-put-line-end-2 c =
     let s = c .before .before .before .before .before .before .before .before .before .before in
-    omega (arith, s .pre .0 .inside (s .args .c .second) (s .pre .1 .0 .2))
+    omega (arith, s .pre .0 .1 .inside)
 
 put-line-requires : tie.Need-put-line-requires
 put-line-requires c κs =
     let s = c .before .before .before .before .before .before .before .before .before .before .before in
     let p = s .pre .1 .0 in
-    simp part-end (found-asked _ _ _ _ (s .pre .0) (s .args .c) (p .1) (p .2) (p .0) (p .3) (p .4) (s .args .k) (s .args .at) (s .args .out .now) (s .pre .1 .1))
+    let a = inside-length _ _ _ _ (s .pre .0 .0) in
+    let b = inside-length _ _ _ _ (s .pre .0 .1) in
+    simp part-end ((p .0, p .1, rw b (p .2), rw a (p .3)), s .pre .1 .1)
 
 same-length : tie.Need-same-length
 same-length c = search needs
 
 returns : tie.Need-returns
-returns c =
-    let p = c .before .before in
-    let s = p .before .before .before .before .before .before .before .before .before .before .before .before in
-    rw (found-word _ _ _ _ (s .pre .0) (s .args .c) (s .pre .1 .0 .1) (s .pre .1 .0 .2)) (simp part-end at (p .put-line .ensures))
+returns c = simp part-end at (c .before .before .put-line .ensures)
 
 pub put-overlap-spec : {M : Type 1} → statement M
 put-overlap-spec =

@@ -3,7 +3,7 @@ use Prim.Native.Nat.{_-_}
 use native.Mathlib.Omega.{arith}
 use Rattle.overlaps.specs.Position.{ordinal}
 use Rattle.listmeasuring.proofs.Walking.{none-left, step}
-use Rattle.listwriting.proofs.Writing.{Writing, writing-start, number-few, line-fits, writing-next, writing-end}
+use Rattle.listwriting.proofs.Writing.{Writing, writing-start, number-few, line-asked, writing-next, writing-end}
 use borrow.Author.Needs.{needs}
 use Rattle.listwriting.proofs.listing.write_lines.Statement.{statement}
 use Rattle.listwriting.proofs.listing.write_lines.Tie as tie
@@ -43,7 +43,7 @@ put-overlap-requires c κs =
     let o = t .before .before .before in
     let l = o .before in
     let s = step _ _ _ _ _ (l .loop .inv .walking) _ _ (o .next-overlap .ensures) (t .before .next .given .1) in
-    (l .loop .inv .walking .laid, ((l .loop .inv .walking .few, s .first-in, s .second-in, s .below-first, s .below-second), line-fits _ _ _ _ _ _ _ _ _ _ (l .loop .inv) _ s))
+    line-asked _ _ _ _ _ _ _ _ _ _ (l .loop .inv) _ s
 
 place-behind-requires : tie.Need-place-behind-requires Inv-loop μ-loop
 place-behind-requires c κs =

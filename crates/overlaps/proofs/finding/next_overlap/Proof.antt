@@ -1,7 +1,7 @@
 -- `next_overlap` finds the first overlap from a place on. The loop's invariant: what is left from c on is what is left from the first place on.
-use mathlib.Core.Path.{_≡_, sym, _∙_}
+use mathlib.Core.Path.{sym, _∙_}
 use Prim.Native.Nat.{_+_, _-_, _*_}
-use Rattle.overlaps.proofs.Searching.{Searching, searching-start, both-in, pair-falls, searching-found, searching-next, searching-end}
+use Rattle.overlaps.proofs.Searching.{Searching, searching-start, both-in, both-inside, pair-falls, searching-found, searching-next, searching-end}
 use borrow.Author.Needs.{needs}
 use Rattle.overlaps.proofs.finding.next_overlap.Statement.{statement}
 use Rattle.overlaps.proofs.finding.next_overlap.Tie as tie
@@ -20,7 +20,7 @@ loop-holds c =
 shared-at-requires : tie.Need-shared-at-requires Inv-loop μ-loop
 shared-at-requires c κs =
     let l = c .before .before in
-    (l .loop .inv .laid, both-in _ _ _ _ _ _ (l .loop .inv) (c .if1 .taken))
+    both-inside _ _ _ _ _ _ (l .loop .inv) (c .if1 .taken)
 
 enum-known-found : tie.Need-enum-known-found Inv-loop μ-loop
 enum-known-found c = search needs

@@ -24,7 +24,7 @@ shared-slice-read-e : tie.Need-shared-slice-read-e
 shared-slice-read-e c = search needs
 
 add-e : tie.Need-add-e
-add-e c = let s = c .before .before .before .before .before .before in omega (arith, s .pre .0 .inside (s .args .c .first) (s .pre .1 .0))
+add-e c = let s = c .before .before .before .before .before .before in omega (arith, s .pre .0 .inside)
 
 mul-f : tie.Need-mul-f
 mul-f c = search needs
@@ -33,7 +33,7 @@ shared-slice-read-f : tie.Need-shared-slice-read-f
 shared-slice-read-f c = search needs
 
 add-f : tie.Need-add-f
-add-f c = let s = c .before .before .before .before .before .before .before in omega (arith, s .pre .0 .inside (s .args .c .second) (s .pre .1 .1))
+add-f c = let s = c .before .before .before .before .before .before .before in omega (arith, s .pre .1 .inside)
 
 sub-next-shared : tie.Need-sub-next-shared
 sub-next-shared c = search needs
@@ -42,7 +42,7 @@ part-next-shared-start : tie.Need-part-next-shared-start
 part-next-shared-start c = search needs
 
 part-next-shared-end : tie.Need-part-next-shared-end
-part-next-shared-end c = let s = c .before .before .before .before .before .before .before in omega (arith, s .pre .0 .inside (s .args .c .first) (s .pre .1 .0))
+part-next-shared-end c = let s = c .before .before .before .before .before .before .before in omega (arith, s .pre .0 .inside)
 
 sub-next-shared-2 : tie.Need-sub-next-shared-2
 sub-next-shared-2 c = search needs
@@ -51,7 +51,7 @@ part-next-shared-start-2 : tie.Need-part-next-shared-start-2
 part-next-shared-start-2 c = search needs
 
 part-next-shared-end-2 : tie.Need-part-next-shared-end-2
-part-next-shared-end-2 c = let s = c .before .before .before .before .before .before .before .before in omega (arith, s .pre .0 .inside (s .args .c .second) (s .pre .1 .1))
+part-next-shared-end-2 c = let s = c .before .before .before .before .before .before .before .before in omega (arith, s .pre .1 .inside)
 
 next-shared-requires : tie.Need-next-shared-requires
 next-shared-requires c κs = search needs
