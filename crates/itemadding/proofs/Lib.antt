@@ -1,4 +1,5 @@
 mod ProductWords
 mod Sums
 mod Products
+pub mod Lowering
 mod FirstTerm

@@ -6,17 +6,18 @@ use native.Mathlib.Omega.{arith}
 use lib.ListN.{length, drop}
 use Rattle.words.specs.Word.{Word, around}
 use Rattle.words.specs.Order.{Order}
-use Rattle.field.specs.Field.{Operations, fieldOf}
+use Rattle.field.specs.Field.{Operations, Field, fieldOf}
 use Rattle.algebra.specs.Poly.{Term, Poly, scale, shift}
 use Rattle.algebra.specs.Written.{insert, plus}
 use Rattle.algebra.proofs.Insertion.{insert-written}
 use Rattle.working.specs.Working.{terms}
-use Rattle.working.specs.Change.{single}
+use Rattle.working.specs.Change.{single, without}
 use Rattle.working.proofs.Terms.{terms-next, terms-end}
 use Rattle.table.specs.Polynomials.{wordIn, termIn}
 use Rattle.table.specs.Table.{primeIn, fieldIn, orderIn, coefIn}
 use Rattle.table.specs.Tabled.{Tabled}
-use Rattle.packedterms.specs.Formula.{formula, Holds, Working}
+use Rattle.packedterms.specs.Formula.{termAt, formula, Holds, Working}
+use Rattle.packedterms.proofs.LeftOut.{without-written}
 
 -- k terms are held in written form, and with `rest` added they are `whole`
 pub record Adding (t c l w o : List ℕ) (k : ℕ) (rest whole : Poly) : Type 0 where
@@ -31,10 +32,24 @@ plus-end : (K : Operations) (O : Order) (f : Poly) → plus K O f [] ≡ f
 unfolding plus
 plus-end K O f = refl
 
+-- The first term of what is left was inserted.
+pub sum-next : (K : Operations) (O : Order) (d : Poly) (s : Term) (f r r' : Poly) → f ≡ insert K O s d → r ≡ s ∷ r' → plus K O f r' ≡ plus K O d r
+sum-next K O d s f r r' e q = ap (λ (g : Poly). plus K O g r') e ∙ sym (plus-next K O d s r') ∙ ap (plus K O d) (sym q)
+
+-- The last term of what is left was inserted.
+pub sum-end : (K : Operations) (O : Order) (d : Poly) (s : Term) (f r r' : Poly) → f ≡ insert K O s d → r ≡ s ∷ r' → r' ≡ [] → f ≡ plus K O d r
+sum-end K O d s f r r' e q z = sym (ap (plus K O f) z ∙ plus-end K O f) ∙ sum-next K O d s f r r' e q
+
 -- The coefficient of a term, times the opposite of x, as it is computed: p is the field's number, y the opposite, c the coefficient.
 pub opposite-times : (t : List ℕ) (j p x y c z : ℕ) → p ≡ primeIn t → y ≡ fieldOf p .neg x → c ≡ coefIn t j → z ≡ fieldOf p .mul y c
     → z ≡ fieldIn t .mul (fieldIn t .neg x) (coefIn t j)
 opposite-times t j p x y c z prime opposite coef product = product ∙ rw (opposite, coef, prime)
+
+-- The same where the coefficient is 1: it is the opposite.
+pub opposite-one : (t : List ℕ) → Field (fieldIn t) → (j p x y : ℕ) → p ≡ primeIn t → y ≡ fieldOf p .neg x → coefIn t j ≡ 1
+    → y ≡ fieldIn t .mul (fieldIn t .neg x) (coefIn t j)
+opposite-one t laws j p x y prime opposite one =
+    opposite ∙ rw (prime, one) (sym (laws .mul-one (fieldIn t .neg x) ∙ laws .red-neg x))
 
 -- A run of terms without its first k.
 drop-terms : (F : ℕ → Term) (i n k : ℕ) → drop k (terms F i n) ≡ terms F (i + k) (n - k)
@@ -93,20 +108,27 @@ module _ (t : List ℕ) (tabled : Tabled t) (c l w o : List ℕ) (k : ℕ) where
       written = rw d (insert-written (tabled .field) (tabled .suits .admissible) s (held .written));
     }
 
-    pub inserted-sum : (g : Poly) → plus (fieldIn t) (orderIn t) (formula t c' l' w' o' k') g ≡ plus (fieldIn t) (orderIn t) (formula t c l w o k) (s ∷ g)
-    inserted-sum g =
-        ap (λ (f : Poly). plus (fieldIn t) (orderIn t) f g) d ∙ sym (plus-next (fieldIn t) (orderIn t) (formula t c l w o k) s g)
+    pub inserted-sum : (g g' : Poly) → g ≡ s ∷ g' → plus (fieldIn t) (orderIn t) (formula t c' l' w' o' k') g' ≡ plus (fieldIn t) (orderIn t) (formula t c l w o k) g
+    inserted-sum g g' = sum-next (fieldIn t) (orderIn t) (formula t c l w o k) s (formula t c' l' w' o' k') g g' d
 
   pub adding-next : (r whole : Poly) → Adding t c l w o k r whole → (c' l' w' o' : List ℕ) (k' : ℕ) (s : Term) (r' : Poly) → r ≡ s ∷ r'
       → Holds t c' l' w' o' k' → formula t c' l' w' o' k' ≡ insert (fieldIn t) (orderIn t) s (formula t c l w o k) → Adding t c' l' w' o' k' r' whole
   adding-next r whole g c' l' w' o' k' s r' e f d = record {
     working = inserted-working (g .working) c' l' w' o' k' s f d;
-    sum = inserted-sum (g .working) c' l' w' o' k' s f d r' ∙ ap (plus (fieldIn t) (orderIn t) (formula t c l w o k)) (sym e) ∙ g .sum;
+    sum = inserted-sum (g .working) c' l' w' o' k' s f d r r' e ∙ g .sum;
   }
 
 pub adding-end : (t c l w o : List ℕ) (k : ℕ) (r whole : Poly) → Adding t c l w o k r whole → r ≡ [] → formula t c l w o k ≡ whole
 adding-end t c l w o k r whole g e =
     sym (ap (plus (fieldIn t) (orderIn t) (formula t c l w o k)) e ∙ plus-end (fieldIn t) (orderIn t) (formula t c l w o k)) ∙ g .sum
+
+-- A term was left out, and another inserted.
+pub replaced-working : (t : List ℕ) → Tabled t → (c l w o : List ℕ) (n k : ℕ) → Working t c l w o n → k < n → (c' l' w' o' : List ℕ) (r : ℕ) (s : Term)
+    → Holds t c' l' w' o' r → formula t c' l' w' o' r ≡ insert (fieldIn t) (orderIn t) s (without (termAt t c l w o) n k) → Working t c' l' w' o' r
+replaced-working t tabled c l w o n k held h c' l' w' o' r s f d = record {
+  holds = f;
+  written = rw d (insert-written (tabled .field) (tabled .suits .admissible) s (without-written t c l w o n k h held));
+}
 
 -- what holds of the numbers at the top of a turn: the item's terms start at first, and the first `skip` of them are left out
 pub record Going (first skip n i k : ℕ) (b : List ℕ) : Type 0 where

@@ -1,3 +1,4 @@
 -- What contracts cite of multiples of a table's polynomials.
 pub mod Fits
 pub mod LeadPlace
+pub mod Lower

@@ -1,13 +1,12 @@
 // A multiple taken away where the term is known that has the word of its leading term: what a step does.
 
+use crate::cancelling::cancels;
+use crate::cancelling::opposite_coef;
+use crate::replacing::replace_item;
 use crate::taking::take_item;
-use field::arithmetic::mul;
-use field::arithmetic::neg;
 use packedterms::term::add_onto;
 use table::Table;
-use table::numbers::coef_in;
 use table::numbers::first_in;
-use table::numbers::prime_in;
 ghost use mathlib.Core.Path.{_≡_};
 ghost use Prim.Native.Nat.{suc, _+_, _≤_, _<_};
 ghost use lib.ListN.{length, getD};
@@ -22,7 +21,8 @@ ghost use Rattle.itemadding.specs.Fits.{Fits};
 ghost use Rattle.itemadding.specs.LeadPlace.{LeadPlace};
 
 // Takes x × left × polynomial × right away from the formula of n terms as `take_item` does, where term k has the word left × leading word × right:
-// the leading term is taken from term k without a search.
+// the leading term is taken from term k without a search, and the others are searched for from there on. Where it cancels term k, the next term takes
+// its place.
 pub fn take_onto_item(
     t: &Table,
     x: u32,
@@ -60,8 +60,13 @@ pub fn take_onto_item(
         ⌝ }
 {
     let first = first_in(t, item);
-    let p = prime_in(t);
-    let y = mul(p, neg(p, x), coef_in(t, first));
+    let end = first_in(t, item + 1);
+    let y = opposite_coef(t, x, first);
+    if first + 1 < end {
+        if cancels(t, y, c, o, k) {
+            return replace_item(t, x, left, a, item, right, b, c, l, w, o, n, k, buf);
+        }
+    }
     let r = add_onto(t, y, c, o, n, k);
-    take_item(t, x, left, a, item, 1, right, b, c, l, w, o, r, buf)
+    take_item(t, x, left, a, item, 1, right, b, c, l, w, o, r, k, buf)
 }

@@ -2,6 +2,8 @@
 // are words in six blocks each, with their sizes; the product with a term's word is made in a room of nine blocks, which is lent.
 
 pub mod building;
+pub mod cancelling;
 pub mod leading_term;
 pub mod placing;
+pub mod replacing;
 pub mod taking;

@@ -1,13 +1,10 @@
 // A multiple taken away from the formula.
 
 use crate::building::build;
-use field::arithmetic::mul;
-use field::arithmetic::neg;
+use crate::cancelling::opposite_coef;
 use packedterms::term::add_term;
 use table::Table;
-use table::numbers::coef_in;
 use table::numbers::first_in;
-use table::numbers::prime_in;
 ghost use mathlib.Core.Path.{_≡_};
 ghost use Prim.Native.Nat.{suc, _+_, _≤_, _<_};
 ghost use lib.ListN.{length, drop};
@@ -19,9 +16,11 @@ ghost use Rattle.table.specs.Tabled.{Tabled};
 ghost use Rattle.table.specs.Words.{wordOf, Sixfold};
 ghost use Rattle.packedterms.specs.Formula.{formula, Working};
 ghost use Rattle.itemadding.specs.Fits.{Fits};
+ghost use Rattle.itemadding.specs.Lower.{Lower};
 
 // Takes x × left × polynomial × right away from the formula of n terms, where the polynomial is that of an item without its first `skip` terms. Left
-// and right have the sizes a and b. The answer is how many terms the formula then has. buf is scratch.
+// and right have the sizes a and b. The products are below the words of the first `from` terms; they fall, so each is searched for behind the one
+// before it. The answer is how many terms the formula then has. buf is scratch.
 pub fn take_item(
     t: &Table,
     x: u32,
@@ -36,6 +35,7 @@ pub fn take_item(
     w: &mut [u64; 3360],
     o: &mut [u16; 560],
     n: usize,
+    from: usize,
     buf: &mut [u64; 9],
 ) -> usize
     requires { ⌜
@@ -50,7 +50,11 @@ pub fn take_item(
     requires { ⌜
         Sixfold (now t) a (now left) × Sixfold (now t) b (now right) × Fits (now t) a b (firstIn (now t) item) (firstIn (now t) (suc item))
         ⌝ }
-    requires { ⌜ Working (now t) (now c) (now l) (now w) (now o) n ⌝ }
+    requires { ⌜
+        Working (now t) (now c) (now l) (now w) (now o) n
+        × Lower (now t) (wordOf (now t) a (now left)) (wordOf (now t) b (now right)) (firstIn (now t) item + skip) (firstIn (now t) (suc item)) from
+        (formula (now t) (now c) (now l) (now w) (now o) n)
+        ⌝ }
     ensures { λ r. ⌜ (r ≤ n + 48) × (length (now (buf .exit)) ≡ 9) ⌝ }
     ensures { λ r. ⌜ Working (now (t .entry)) (now (c .exit)) (now (l .exit)) (now (w .exit)) (now (o .exit)) r ⌝ }
     ensures { λ r. ⌜
@@ -62,15 +66,16 @@ pub fn take_item(
         (drop skip (polynomialIn (now (t .entry)) item))))
         ⌝ }
 {
-    let p = prime_in(t);
-    let y = neg(p, x);
     let end = first_in(t, item + 1);
     let mut i = first_in(t, item) + skip;
     let mut k = n;
+    let mut low = from;
     while i < end {
-        let z = mul(p, y, coef_in(t, i));
+        let z = opposite_coef(t, x, i);
         let e = build(t, i, left, a, right, b, buf);
-        k = add_term(t, z, buf, e, c, l, w, o, k);
+        let r = add_term(t, z, buf, e, c, l, w, o, k, low);
+        k = r.terms;
+        low = r.at;
         i += 1;
     }
     k

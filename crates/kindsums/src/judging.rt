@@ -72,7 +72,7 @@ pub fn judge_sums(
             let j = k.others + s.of;
             let a = z.left;
             let b = z.right;
-            n = take_item(t, x, &left, a, j, 0, &right, b, c, l, w, o, n, &mut buf);
+            n = take_item(t, x, &left, a, j, 0, &right, b, c, l, w, o, n, 0, &mut buf);
             if 512 < n {
                 answer = SumsAnswer::Refused {
                     number: 10,

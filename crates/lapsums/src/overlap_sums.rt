@@ -88,7 +88,7 @@ pub fn judge_overlaps(
             let j = base + s.of;
             let a = z.left;
             let b = z.right;
-            n = take_item(t, y, &left, a, j, 0, &right, b, c, l, w, o, n, &mut buf);
+            n = take_item(t, y, &left, a, j, 0, &right, b, c, l, w, o, n, 0, &mut buf);
             if 512 < n {
                 answer = LapsAnswer::Stopped {
                     number: 10,

@@ -8,17 +8,15 @@ use lib.ListN.{length, getD}
 use Rattle.lists.proofs.Parts.{part-length}
 use Rattle.words.specs.Word.{Word}
 use Rattle.algebra.specs.Poly.{Term, Poly, scale, shift}
-use Rattle.algebra.specs.Written.{Written, plus}
+use Rattle.algebra.specs.Written.{plus}
 use Rattle.algebra.specs.Ideal.{family}
 use Rattle.algebra.specs.Spot.{spot, found}
 use Rattle.algebra.specs.Steps.{takeAway, lineAt, stepped}
 use Rattle.algebra.proofs.Spots.{spot-found}
-use Rattle.working.proofs.Families.{family-written}
-use Rattle.working.proofs.Falling.{written-falls}
 use Rattle.packedsteps.proofs.NotLonger.{below-length}
 use Rattle.table.specs.Table.{gensIn, fieldIn, orderIn, firstIn, sizeIn, blocksIn}
 use Rattle.table.specs.Words.{wordOf, Sixfold}
-use Rattle.table.specs.Polynomials.{wordIn, termIn, polynomialIn, basisIn}
+use Rattle.table.specs.Polynomials.{wordIn, polynomialIn, basisIn}
 use Rattle.table.specs.Tabled.{Tabled}
 use Rattle.packedterms.specs.Formula.{blocksAt, Working}
 use Rattle.packedterms.proofs.Places.{term-place}
@@ -27,6 +25,7 @@ use Rattle.itemadding.specs.LeadPlace.{LeadPlace}
 use Rattle.packedsteps.specs.Cuts.{CutAt}
 use Rattle.packedsteps.specs.Lines.{LineTaken}
 use Rattle.packedsteps.specs.declared.Cut.{Cut}
+use Rattle.table.proofs.FallingWords.{item-falls}
 use Rattle.table.proofs.WordSizes.{word-size}
 use Rattle.table.proofs.LeadingTerms.{LeadTerm}
 
@@ -43,9 +42,6 @@ term-held t c l w o n W k h =
 
 -- No word of a basis polynomial is longer than its leading word.
 module _ (t : List ℕ) (T : Tabled t) (g : ℕ) (L : LeadTerm t g) where
-  polynomial-written : Written (fieldIn t) (orderIn t) (polynomialIn t (gensIn t + g))
-  polynomial-written = rw (L .polynomial) at (family-written (fieldIn t) (orderIn t) (basisIn t) (T .basis-written) g)
-
   none-longer : (i : ℕ) → firstIn t (gensIn t + g) ≤ i → i < firstIn t (suc (gensIn t + g)) → sizeIn t i % 256 ≤ sizeIn t (firstIn t (gensIn t + g)) % 256
   none-longer i lo hi = go (decLt first i)
     where
@@ -58,7 +54,8 @@ module _ (t : List ℕ) (T : Tabled t) (g : ℕ) (L : LeadTerm t g) where
       go : Dec (firstIn t (gensIn t + g) < i) → sizeIn t i % 256 ≤ sizeIn t (firstIn t (gensIn t + g)) % 256
       go (no h) = let e : i ≡ firstIn t (gensIn t + g) = omega arith in rw e (omega arith)
       go (yes h) =
-          let below = written-falls (fieldIn t) (orderIn t) (termIn t) (firstIn t (gensIn t + g)) (firstIn t (suc (gensIn t + g)) - firstIn t (gensIn t + g)) polynomial-written (firstIn t (gensIn t + g)) i (omega arith) h (omega arith) in
+          let some = L .some in
+          let below = item-falls t T (gensIn t + g) (omega arith) (L .item) (firstIn t (gensIn t + g)) i (omega arith) h hi in
           let short = below-length (wordIn t i) (wordIn t (firstIn t (gensIn t + g))) below in
           omega (arith, size i, size (firstIn t (gensIn t + g)))
 

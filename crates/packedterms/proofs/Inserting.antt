@@ -15,8 +15,10 @@ use Rattle.working.proofs.Inserted.{insert-equal, insert-new, insert-zero}
 use Rattle.table.specs.Table.{primeIn, fieldIn, orderIn}
 use Rattle.table.specs.Tabled.{Tabled}
 use Rattle.table.specs.Words.{wordOf, Built}
+use Rattle.packedterms.specs.Behind.{Behind}
 use Rattle.packedterms.specs.Finding.{standing, Belonging}
 use Rattle.packedterms.specs.Formula.{termAt, formula, Working}
+use Rattle.packedterms.proofs.BehindTerms.{behind-first, behind-inserted}
 use Rattle.packedterms.proofs.Sinks.{standing-is}
 
 module _ (t : List ℕ) (tabled : Tabled t) (x e : ℕ) (small : x < primeIn t) (v : List ℕ) (b : Built t e v) (c l w o : List ℕ) (n : ℕ)
@@ -35,6 +37,12 @@ module _ (t : List ℕ) (tabled : Tabled t) (x e : ℕ) (small : x < primeIn t) 
 
   above : (i : ℕ) → i < k → Lt (orderIn t) (wordOf t e v) (F i .word)
   above i h = let q = found .low in sym (is i (omega arith)) ∙ found .below i h
+
+  -- the term's word is still behind the terms before k
+  pub added-behind : {g : Poly} → g ≡ inserted → Behind (orderIn t) (wordOf t e v) k g
+  added-behind d =
+      let first = behind-first (orderIn t) (wordOf t e v) F k n (found .low) above in
+      rw d (behind-inserted (fieldIn t) (orderIn t) x (wordOf t e v) k (formula t c l w o n) first)
 
   element : fieldIn t .red x ≡ x
   element = tabled .field .red-elem x (element-of (primeIn t) small)

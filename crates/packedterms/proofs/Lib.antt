@@ -2,8 +2,11 @@
 pub mod BuiltWords
 mod StoredBlocks
 mod Halving
+pub mod BehindTerms
 pub mod Places
+pub mod LeftOut
 mod Sinks
 pub mod NewTerm
 pub mod SameWord
 mod Inserting
+mod ReplacedTerm

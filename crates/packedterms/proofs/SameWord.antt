@@ -1,5 +1,5 @@
 -- A number added to the coefficient of term k: the term has the sum, or it is dropped where that is 0.
-use mathlib.Core.Path.{_≡_, sym, ap, _∙_}
+use mathlib.Core.Path.{_≡_, sym, _∙_}
 use mathlib.Core.List.{List, _∷_}
 use mathlib.Core.Logic.{_≢_}
 use Prim.Native.Nat.{ℕ, _+_, _-_, _≤_, _<_}
@@ -12,14 +12,14 @@ use Rattle.algebra.specs.Poly.{Term, Poly}
 use Rattle.algebra.specs.Written.{put}
 use Rattle.algebra.proofs.Insertion.{put-zero, put-some}
 use Rattle.working.specs.Working.{terms}
-use Rattle.working.specs.Rotation.{Moved, rotatedRight, rotatedLeft}
+use Rattle.working.specs.Rotation.{Moved, rotatedLeft}
 use Rattle.working.specs.Change.{single, onto}
-use Rattle.working.proofs.Terms.{terms-next, terms-cut, terms-same, terms-left}
-use Rattle.working.proofs.Rotations.{right-left, left-below}
+use Rattle.working.proofs.Terms.{terms-next, terms-cut, terms-same}
 use Rattle.table.specs.Table.{fieldIn}
 use Rattle.packedterms.specs.Change.{AddedOnto}
-use Rattle.packedterms.specs.Formula.{placed, termAt, formula, Holds}
-use Rattle.packedterms.proofs.Places.{term-place, holds-less, holds-moved}
+use Rattle.packedterms.specs.Formula.{termAt, formula, Holds}
+use Rattle.packedterms.proofs.LeftOut.{left-out-holds, left-out-formula}
+use Rattle.packedterms.proofs.Places.{term-place}
 
 module _ (t : List ℕ) (laws : Field (fieldIn t)) (c l w o : List ℕ) (n k x : ℕ) (f : Holds t c l w o n) (h : k < n) where
   abbrev s : ℕ
@@ -65,28 +65,15 @@ module _ (t : List ℕ) (laws : Field (fieldIn t)) (c l w o : List ℕ) (n k x :
       terms-cut G k n (omega arith) ∙ rw (terms-next G k n h, front, back, here, some)
 
   -- the entry goes behind the others
-  module _ (o' : List ℕ) (mv : Moved (rotatedLeft k (n - 1)) o o') where
-    dropped-holds : Holds t c l w o' (n - 1)
-    dropped-holds =
-        let q : k ≤ n - 1 = omega arith in
-        let g = f .count in
-        let p = f .room .places in
-        holds-less t c l w o' n (holds-moved t c l w o o' n (rotatedLeft k (n - 1)) (rotatedRight k (n - 1)) (right-left k (n - 1) q)
-        (λ j z. left-below k (n - 1) q (length o) j (omega arith) z) (λ j z. left-below k (n - 1) q n j (omega arith) z) mv f) (n - 1) (omega arith)
-
-    dropped-formula : y ≡ 0 → formula t c l w o' (n - 1) ≡ onto (fieldIn t) F n k x
-    dropped-formula z =
-        let q : k ≤ n - 1 = omega arith in
-        let d : n - 1 - k ≡ n - (k + 1) = omega arith in
-        terms-left (termAt t c l w o') F k (n - 1) q (λ j. ap (placed t c l w) (mv .at j))
-        ∙ rw (d, put-zero (fieldIn t) y (F k .word) behind (element ∙ z))
+  dropped-formula : (o' : List ℕ) → Moved (rotatedLeft k (n - 1)) o o' → y ≡ 0 → formula t c l w o' (n - 1) ≡ onto (fieldIn t) F n k x
+  dropped-formula o' mv z = left-out-formula t c l w o n k h o' mv ∙ rw (put-zero (fieldIn t) y (F k .word) behind (element ∙ z))
 
   module _ (c' o' : List ℕ) (r : ℕ) (a : AddedOnto y c o n k c' o' r) where
     pub onto-holds : (r ≤ n) × Holds t c' l w o' r
     onto-holds = go (ℕ-discrete y 0)
       where
         go : Dec (y ≡ 0) → (r ≤ n) × Holds t c' l w o' r
-        go (yes z) = let (q, u, mv) = a .dropped z in (omega arith, rw (q, u) (dropped-holds o' mv))
+        go (yes z) = let (q, u, mv) = a .dropped z in (omega arith, rw (q, u) (left-out-holds t c l w o n k h o' mv f))
         go (no z) = let (q, u, v) = a .summed z in (omega arith, rw (q, u, v) summed-holds)
 
     pub onto-formula : formula t c' l w o' r ≡ onto (fieldIn t) F n k x

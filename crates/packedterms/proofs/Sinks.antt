@@ -10,8 +10,10 @@ use Rattle.words.specs.declared.Comparison.{Comparison}
 use Rattle.words.specs.declared.Comparison.the-variants.{Below, Equal}
 use Rattle.table.specs.Table.{orderIn}
 use Rattle.table.specs.Words.{wordOf, Suits, Built}
-use Rattle.packedterms.specs.Finding.{standing, Sought}
-use Rattle.packedterms.specs.Formula.{wordAt, Working}
+use Rattle.packedterms.specs.Behind.{Behind}
+use Rattle.packedterms.specs.Finding.{standing, Sought, BelowFirst}
+use Rattle.packedterms.specs.Formula.{wordAt, termAt, formula, Working}
+use Rattle.packedterms.proofs.BehindTerms.{first-behind}
 use Rattle.packedterms.proofs.BuiltWords.{built-few, built-compares}
 use Rattle.packedterms.proofs.Places.{term-place, place-inside, words-fall}
 
@@ -47,3 +49,8 @@ module _ (t : List ℕ) (suits : Suits t) (e : ℕ) (v : List ℕ) (b : Built t 
     place = term-place t c l w o n (f .holds);
     sinks = record { under-below = under-below; under-equal = under-equal };
   }
+
+  pub below-first : (k : ℕ) → Behind (orderIn t) (wordOf t e v) k (formula t c l w o n) → BelowFirst S k n
+  below-first k d =
+      let (h, a) = first-behind (orderIn t) (wordOf t e v) (termAt t c l w o) k n d in
+      record { count = h; below = λ i q. standing-is i (omega arith) ∙ a i q }

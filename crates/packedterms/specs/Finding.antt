@@ -32,6 +32,11 @@ pub record Sought (v : List ℕ) (e : ℕ) (l w o : List ℕ) (n : ℕ) : Type 0
   pub place : (i : ℕ) → i < n → getD o i 0 < 560
   pub sinks : Sinking (standing v e l w o) n
 
+-- There are n words, and the word is below each of the first k.
+pub record BelowFirst (S : ℕ → Comparison) (k n : ℕ) : Type 0 where
+  pub count : k ≤ n
+  pub below : (i : ℕ) → i < k → S i ≡ Below
+
 -- Where the word belongs among the first n: it is below those before the index; and it is the word at the index, or above that word if there is one.
 pub record Belonging (S : ℕ → Comparison) (n index : ℕ) (present : Bool) : Type 0 where
   pub low : index ≤ n

@@ -6,7 +6,7 @@ use working::Position;
 ghost use mathlib.Core.Path.{_≡_};
 ghost use Prim.Native.Nat.{_≤_, _<_};
 ghost use lib.ListN.{length};
-ghost use Rattle.packedterms.specs.Finding.{byNumbers, standing, Sought, Belonging};
+ghost use Rattle.packedterms.specs.Finding.{byNumbers, standing, Sought, BelowFirst, Belonging};
 
 // A number of 32 bits as a wider one.
 pub fn wide(x: u32) -> usize
@@ -37,23 +37,25 @@ pub fn compare_at(
     compare(v, 0, w, s * 6, k)
 }
 
-// Where the word of size e in v belongs among the first n words, by halves.
+// Where the word of size e in v belongs among the first n words, by halves. It is below the first `from` of them.
 pub fn find(
     v: &[u64; 9],
     e: usize,
     l: &[u32; 560],
     w: &[u64; 3360],
     o: &[u16; 560],
+    from: usize,
     n: usize,
 ) -> Position
     requires { ⌜ Sought (now v) e (now l) (now w) (now o) n ⌝ }
+    requires { ⌜ BelowFirst (standing (now v) e (now l) (now w) (now o)) from n ⌝ }
     ensures { λ r. ⌜
         Belonging (standing (now (v .entry)) e (now (l .entry)) (now (w .entry)) (now (o .entry))) n (r .index) (r .present)
         ⌝ }
 {
     let x = e / 256;
     let k = (e % 256 + 11) / 12;
-    let mut lo = 0;
+    let mut lo = from;
     let mut hi = n;
     while lo < hi {
         let mid = lo + (hi - lo) / 2;

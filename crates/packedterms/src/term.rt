@@ -1,5 +1,6 @@
 // One term added to the formula.
 
+use crate::Added;
 use crate::search::find;
 use field::arithmetic::add;
 use packing::product::copy_place;
@@ -16,6 +17,7 @@ ghost use Rattle.table.specs.Table.{primeIn, fieldIn, orderIn};
 ghost use Rattle.table.specs.Tabled.{Tabled};
 ghost use Rattle.table.specs.Words.{wordOf, Built};
 ghost use Rattle.packedterms.specs.Change.{Stored, PutBefore, AddedOnto};
+ghost use Rattle.packedterms.specs.Behind.{Behind};
 ghost use Rattle.packedterms.specs.Formula.{formula, Holds, Working};
 
 // Stores a term at the place that entry n of o names: the coefficient x, and the word of size e in the first six blocks of v.
@@ -92,7 +94,7 @@ pub fn add_onto(
     n
 }
 
-// Adds a term to the formula of n terms: the coefficient x, and the word of size e in v. The answer is how many terms there then are.
+// Adds a term to the formula of n terms: the coefficient x, and the word of size e in v, which is below the words of the first `from` terms.
 pub fn add_term(
     t: &Table,
     x: u32,
@@ -103,23 +105,35 @@ pub fn add_term(
     w: &mut [u64; 3360],
     o: &mut [u16; 560],
     n: usize,
-) -> usize
+    from: usize,
+) -> Added
     requires { ⌜ Tabled (now t) × (x < primeIn (now t)) × (n < 560) × Built (now t) e (now v) ⌝ }
     requires { ⌜ Working (now t) (now c) (now l) (now w) (now o) n ⌝ }
-    ensures { λ r. ⌜ (r ≤ n + 1) × Holds (now (t .entry)) (now (c .exit)) (now (l .exit)) (now (w .exit)) (now (o .exit)) r ⌝ }
+    requires { ⌜ Behind (orderIn (now t)) (wordOf (now t) e (now v)) from (formula (now t) (now c) (now l) (now w) (now o) n) ⌝ }
+    ensures { λ r. ⌜ (r .terms ≤ n + 1) × Holds (now (t .entry)) (now (c .exit)) (now (l .exit)) (now (w .exit)) (now (o .exit)) (r .terms) ⌝ }
     ensures { λ r. ⌜
-        formula (now (t .entry)) (now (c .exit)) (now (l .exit)) (now (w .exit)) (now (o .exit)) r
+        formula (now (t .entry)) (now (c .exit)) (now (l .exit)) (now (w .exit)) (now (o .exit)) (r .terms)
         ≡ insert (fieldIn (now (t .entry))) (orderIn (now (t .entry))) (single x (wordOf (now (t .entry)) e (now (v .entry))))
         (formula (now (t .entry)) (now (c .entry)) (now (l .entry)) (now (w .entry)) (now (o .entry)) n)
         ⌝ }
+    ensures { λ r. ⌜
+        Behind (orderIn (now (t .entry))) (wordOf (now (t .entry)) e (now (v .entry))) (r .at)
+        (formula (now (t .entry)) (now (c .exit)) (now (l .exit)) (now (w .exit)) (now (o .exit)) (r .terms))
+        ⌝ }
 {
-    let f = find(v, e, l, w, o, n);
+    let f = find(v, e, l, w, o, from, n);
+    let at = f.index;
     if f.present {
-        return add_onto(t, x, c, o, n, f.index);
+        let r = add_onto(t, x, c, o, n, at);
+        return Added { terms: r, at: at };
     }
     if x == 0 {
-        return n;
+        return Added { terms: n, at: at };
     }
-    put_before(x, v, e, c, l, w, o, n, f.index);
-    n + 1
+    put_before(x, v, e, c, l, w, o, n, at);
+    let more = n + 1;
+    Added {
+        terms: more,
+        at: at,
+    }
 }

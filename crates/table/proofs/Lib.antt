@@ -1,3 +1,4 @@
 pub mod WordSizes
 pub mod Families
+pub mod FallingWords
 pub mod LeadingTerms

@@ -77,6 +77,7 @@ pub fn start_difference(
         w,
         o,
         k,
+        0,
         buf,
     )
 }

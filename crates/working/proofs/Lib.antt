@@ -4,6 +4,7 @@ pub mod Terms
 pub mod RotationRight
 pub mod RotationLeft
 pub mod Rotations
+pub mod MovedEntries
 pub mod Inserted
 pub mod Falling
 pub mod Between

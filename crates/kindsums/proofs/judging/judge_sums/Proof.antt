@@ -16,6 +16,7 @@ use Rattle.packedterms.specs.Formula.{formula, termAt, Room, Working}
 use Rattle.tablesums.proofs.Fitting.{short-fits, empty-short}
 use Rattle.tablesums.specs.Heading.{headIn}
 use Rattle.tablelies.proofs.SumWords.{line-words}
+use Rattle.itemadding.proofs.Lowering.{lower-none}
 use Rattle.kindsums.specs.Kinds.{sideIn}
 use Rattle.kindsums.specs.Judged.{verdictOf, LeftBehind}
 use Rattle.kindsums.proofs.KindItems.{KindItems, kind-items, target-placed, target-working, line-taken}
@@ -202,7 +203,7 @@ take-item-requires c κs =
     let first : 1 ≤ k .kind-numbers .result .others + m .loop .s .of = omega arith in
     let most = items k .other-in (m .loop .s .of) (fits .most) in
     let fit = short-fits _ (opened m .pre .0) _ _ _ (l .short .few) (r .short .few) first most in
-    ((opened m .pre .0, fits .coef, first, most, omega arith, omega arith, i .3), ((l .short .six, r .short .six, fit), i .4))
+    ((opened m .pre .0, fits .coef, first, most, omega arith, omega arith, i .3), ((l .short .six, r .short .six, fit), (i .4, lower-none _ _ _ _ _ _)))
 
 add-line : tie.Need-add-line Inv-loop μ-loop Inv-items μ-items
 add-line c =

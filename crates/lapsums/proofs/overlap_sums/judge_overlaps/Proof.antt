@@ -6,6 +6,7 @@ use mathlib.Core.List.{List}
 use Prim.Native.Nat.{ℕ, _+_, _-_, _≤_}
 use native.Mathlib.Omega.{arith}
 use lib.ListN.{length}
+use Rattle.itemadding.proofs.Lowering.{lower-none}
 use borrow.Author.Tests.{not-true, not-false}
 use Rattle.algebra.specs.Ideal.{family}
 use Rattle.working.specs.Working.{Arranged}
@@ -249,7 +250,7 @@ take-item-requires c κs =
     let first : 1 ≤ based (outer m) .gens-in .result + m .loop .s .of = omega arith in
     let last : based (outer m) .gens-in .result + m .loop .s .of ≤ itemsIn (opened m .args .t .now) = omega arith in
     let fit = short-fits _ tabled _ _ _ (l .short .few) (r .short .few) first last in
-    ((tabled, small, first, last, omega arith, omega arith, u .is-under .ensures .1), ((l .short .six, r .short .six, fit), i .4))
+    ((tabled, small, first, last, omega arith, omega arith, u .is-under .ensures .1), ((l .short .six, r .short .six, fit), (i .4, lower-none _ _ _ _ _ _)))
 
 add-line : tie.Need-add-line Inv-loop μ-loop Inv-items μ-items
 add-line c =

@@ -10,20 +10,20 @@ use Rattle.packedterms.proofs.search.find.Statement.{statement}
 use Rattle.packedterms.proofs.search.find.Tie as tie
 
 abbrev Inv-loop : tie.InvT-loop
-Inv-loop v e l w o n x k lo₀ hi₀ lo hi =
+Inv-loop v e l w o from n x k lo₀ hi₀ lo hi =
     (lo ≤ hi)
     × (hi ≤ n)
     × ((i : ℕ) → i < lo → standing v e l w o i ≡ Below)
     × (hi < n → standing v e l w o hi ≡ Above)
 
 abbrev μ-loop : tie.MeasureT-loop
-μ-loop v e l w o n x k lo₀ hi₀ lo hi = hi - lo
+μ-loop v e l w o from n x k lo₀ hi₀ lo hi = hi - lo
 
 add-k : tie.Need-add-k Inv-loop μ-loop
 add-k c = search needs
 
 loop-holds : tie.Need-loop-holds Inv-loop μ-loop
-loop-holds c = (search needs, search needs, λ i h. absurd (omega arith), λ h. absurd (omega arith))
+loop-holds c = let first = c .pre .1 in (first .count, search needs, first .below, λ h. absurd (omega arith))
 
 sub-mid : tie.Need-sub-mid Inv-loop μ-loop
 sub-mid c = search needs
@@ -41,14 +41,14 @@ cast-compare-at : tie.Need-cast-compare-at Inv-loop μ-loop
 cast-compare-at c =
     let m = c .before .before in
     let half = m .loop .lo + (m .loop .hi - m .loop .lo) / 2 in
-    let q = m .before .pre .place half (search needs) in
+    let q = m .before .pre .0 .place half (search needs) in
     search needs
 
 compare-at-requires : tie.Need-compare-at-requires Inv-loop μ-loop
 compare-at-requires c κs =
     let m = c .before .before in
     let half = m .loop .lo + (m .loop .hi - m .loop .lo) / 2 in
-    let sought = m .before .pre in
+    let sought = m .before .pre .0 in
     (omega (arith, sought .few), sought .place half (search needs), sought .nine, sought .blocks)
 
 enum-told : tie.Need-enum-told Inv-loop μ-loop
@@ -65,7 +65,7 @@ loop-again c =
     let q = c .before .before in
     let m = q .before .before .before in
     let half = m .loop .lo + (m .loop .hi - m .loop .lo) / 2 in
-    (search needs, search needs, below-all _ _ (m .before .pre .sinks) half (search needs) (q .compare-at .ensures) (c .enum-told .given .1), m .loop .inv .3)
+    (search needs, search needs, below-all _ _ (m .before .pre .0 .sinks) half (search needs) (q .compare-at .ensures) (c .enum-told .given .1), m .loop .inv .3)
 
 enum-told-2 : tie.Need-enum-told-2 Inv-loop μ-loop
 enum-told-2 c = search needs
@@ -75,7 +75,7 @@ returns c =
     let q = c .before .before in
     let m = q .before .before .before in
     let half = m .loop .lo + (m .loop .hi - m .loop .lo) / 2 in
-    belonging-equal _ _ (m .before .pre .sinks) half (search needs) (q .compare-at .ensures) (c .enum-told2 .given .1)
+    belonging-equal _ _ (m .before .pre .0 .sinks) half (search needs) (q .compare-at .ensures) (c .enum-told2 .given .1)
 
 enum-told-3 : tie.Need-enum-told-3 Inv-loop μ-loop
 enum-told-3 c = search needs

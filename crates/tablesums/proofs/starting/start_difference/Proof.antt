@@ -2,6 +2,7 @@
 use Prim.Native.Nat.{_+_}
 use native.Mathlib.Omega.{arith}
 use Rattle.field.proofs.Fields.{below-of}
+use Rattle.itemadding.proofs.Lowering.{lower-none}
 use Rattle.tablesums.proofs.Fitting.{short-fits, empty-short}
 use Rattle.tablesums.proofs.Differences.{first-working, difference-is}
 use borrow.Author.Needs.{needs}
@@ -47,7 +48,7 @@ take-item-requires c κs =
     let item = g .gens-in .result + 1 + s .args .f .second in
     let fits = short-fits _ tabled (s .args .sizes .left) 0 item (l .short .few) (none .short .few) (omega arith) (omega arith) in
     let works = first-working t tabled (s .args .f .first) first _ (omega arith) _ _ _ _ _ _ _ (d .1 .0) (d .1 .1) in
-    ((tabled, below-of _ (tabled .field .one-lt), omega arith, omega arith, omega arith, omega arith, d .0 .1), ((l .short .six, none .short .six, fits), works))
+    ((tabled, below-of _ (tabled .field .one-lt), omega arith, omega arith, omega arith, omega arith, d .0 .1), ((l .short .six, none .short .six, fits), (works, lower-none _ _ _ _ _ _)))
 
 returns : tie.Need-returns
 returns c =
