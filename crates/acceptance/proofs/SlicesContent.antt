@@ -13,6 +13,7 @@ use lib.Seq.{getD-take, getD-drop, ext-getD}
 use borrow.Author.Tests.{eq-eqb, ne-eqb, ltb-false, lt-ltb, le-ltb}
 use Rattle.lists.specs.All.{All, done, _also_}
 use Rattle.lists.proofs.Every.{all-at}
+use Rattle.lists.proofs.Entries.{part-at}
 use Rattle.text.specs.Bytes.{within}
 use Rattle.text.specs.Pieces.{part}
 use Rattle.text.proofs.Bytewise.{within-in}
@@ -32,7 +33,7 @@ use Rattle.working.specs.Polynomial.{polyTerm}
 use Rattle.working.specs.Working.{terms}
 use Rattle.working.specs.Family.{between, polyBetween, familyAt, Terms, Runs}
 use Rattle.working.proofs.Terms.{terms-length, terms-at}
-use Rattle.working.proofs.Between.{between-length, between-at}
+use Rattle.working.proofs.Between.{between-length}
 use Rattle.acceptance.specs.Content.{termsOf, polynomial, polynomials, relations, basis}
 use Rattle.acceptance.proofs.LineFacts.{TermBounds, term-bounds}
 use Rattle.acceptance.proofs.ReadableContent.{item-here, item-other, is-item, Past, past-none, passed}
@@ -223,7 +224,7 @@ module _ (s ks is cs os ls fs : List ℕ) (h : Head) (m at n : ℕ) (e : seenAll
           let x : getD (take (b - a) (drop a whole)) j d ≡ heldTerm s ks is cs os ls (a + j) =
           getD-take (b - a) (drop a whole) j d q ∙ getD-drop a whole j d ∙ kept-at s ks is cs os ls d m (a + j) (omega arith) in
           terms-at (polyTerm (between cs a b) (between os a b) (between ls a b) s) (length (between cs a b)) j (record { coef = d .coef; word = d .word }) (omega arith)
-          ∙ rw (between-at cs a b j q, between-at os a b j q, between-at ls a b j q) (sym (terms-of-at (take (b - a) (drop a whole)) j d ∙ rw x))
+          ∙ rw (part-at cs a (b - a) j q, part-at os a (b - a) j q, part-at ls a (b - a) j q) (sym (terms-of-at (take (b - a) (drop a whole)) j d ∙ rw x))
 
   module _ (k base count : ℕ) (kind : within 1 2 k ≡ true) (items : itemsOf h k ≡ count) (slots : (g : ℕ) → g < count → slot h k (suc g) ≡ base + g)
       (all : base + count < h .gens + h .basis + 2) where

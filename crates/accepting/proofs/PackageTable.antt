@@ -25,11 +25,10 @@ use Rattle.sumlines.specs.Lines.{sumsAt}
 use Rattle.sumorder.specs.Reached.{SumsStart}
 use Rattle.sumorder.proofs.Row.{then-refused, then-fine}
 use Rattle.table.specs.Table.{primeIn, lettersIn, gensIn, basisCountIn, fieldIn, orderIn}
-use Rattle.table.specs.Polynomials.{relationsIn, basisIn}
+use Rattle.table.specs.Polynomials.{relationsIn, basisIn, BasisNonzero}
 use Rattle.table.specs.Tabled.{Tabled}
 use Rattle.tablesums.specs.Heading.{headIn}
 use Rattle.tablesums.specs.Leading.{HeadsIn}
-use Rattle.lapsums.specs.Heading.{Nonzero}
 use Rattle.lapsums.specs.Answer.{answerOf}
 use Rattle.lapsums.specs.declared.Checked.{Checked}
 use Rattle.lapsums.specs.declared.Checked.the-variants.{Rejected, Accepted}
@@ -92,7 +91,7 @@ module _ {bytes cs os ls fs : List ℕ} {h : Head} {m at n : ℕ} (r : PackageRe
     pub begins-in : SumsStart (headIn t) bytes at n
     begins-in = subst (λ (k : Head). SumsStart k bytes at n) (sym head-is) (r .begins)
 
-    pub nonzero-in : Nonzero t
+    pub nonzero-in : BasisNonzero t
     nonzero-in = subst (All (λ f. f ≢ [])) (sym ps) (fine-nonzero polys sound)
 
     pub heads-in : (heads headlens : List ℕ) → HeadsOf cs os ls bytes fs (h .gens + 1) (h .basis) heads headlens → HeadsIn t heads headlens bytes

@@ -1,4 +1,5 @@
-// The services check, short form and membership: the answer of accept or reduce, with the working arrays that they need, as the struct that C sees.
+// The services check, short form and membership: the answer of accept or reduce, with the table and the working arrays that they need, as the struct
+// that C sees.
 
 pub mod check;
 pub mod member;

@@ -12,16 +12,10 @@ use lib.Seq.{drop-cons}
 use borrow.Author.Tests.{eq-eqb, ne-eqb}
 use Rattle.words.specs.declared.Found.{Found}
 use Rattle.words.specs.declared.Found.the-variants.{At, Nowhere}
-use Rattle.words.specs.Laid.{Laid}
 use Rattle.words.specs.Word.{Word}
 use Rattle.words.specs.Place.{leftmost}
 use Rattle.acceptance.specs.Check.{holdsOther, apartJudged}
-use Rattle.basis.specs.Lies.{WordLies}
 use Rattle.basis.specs.Told.{told, isAt, otherInside}
-
--- Each of the words that are laid lies in the bytes.
-pub word-lies : {heads headlens bytes : List ℕ} {n : ℕ} → Laid heads headlens bytes n → (g : ℕ) → g < n → WordLies heads headlens bytes g
-word-lies l g h = let x = l .starting in let y = l .ending in record { starting = omega arith; ending = omega arith; inside = l .inside g h }
 
 module _ (a : ℕ) (u : Word) (b : ℕ) (v : Word) where
   pub inside-self : a ≡ b → false ≡ otherInside a u b v

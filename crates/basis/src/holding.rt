@@ -4,15 +4,14 @@ use wordplaces::place::leftmost_place;
 use words::Found;
 ghost use mathlib.Core.Path.{_≡_};
 ghost use Prim.Native.Nat.{_+_, _<_};
-ghost use Rattle.words.specs.Laid.{laidWord, laidWords, Laid};
+ghost use Rattle.words.specs.Laid.{laidWord, laidWords, WordInside, Laid};
 ghost use Rattle.acceptance.specs.Check.{holdsOther, apartJudged};
-ghost use Rattle.basis.specs.Lies.{WordLies};
 ghost use Rattle.basis.specs.Told.{told, otherInside};
 
 // Whether word b is another than word a, and stands inside it.
 fn is_held(heads: &[usize], headlens: &[usize], bytes: &[u8], a: usize, b: usize) -> bool
-    requires { ⌜ WordLies (now heads) (now headlens) (now bytes) a ⌝ }
-    requires { ⌜ WordLies (now heads) (now headlens) (now bytes) b ⌝ }
+    requires { ⌜ WordInside (now heads) (now headlens) (now bytes) a ⌝ }
+    requires { ⌜ WordInside (now heads) (now headlens) (now bytes) b ⌝ }
     ensures { λ r. ⌜ r ≡ otherInside a (laidWord (now (heads .entry)) (now (headlens .entry)) (now (bytes .entry)) a) b (laidWord (now (heads .entry)) (now (headlens .entry)) (now (bytes .entry)) b) ⌝ }
 {
     if a == b {

@@ -3,7 +3,7 @@
 // digits; and the line end. Under the letter W the package is a word, the formula another, and the budget a place of that; under N the package is a
 // word.
 
-use overlaps::shared::lesser;
+use lists::numbers::lesser;
 ghost use mathlib.Core.Path.{_≡_};
 ghost use Prim.Native.Nat.{_≤_};
 ghost use lib.ListN.{length};

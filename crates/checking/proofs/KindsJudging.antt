@@ -13,7 +13,7 @@ use Rattle.words.specs.Order.{Order}
 use Rattle.algebra.specs.Ideal.{family}
 use Rattle.package.specs.Names.{sumB, sumG, sumO}
 use Rattle.package.specs.Sums.{SumLine}
-use Rattle.acceptance.specs.Check.{Verdict, refusal, fine, thenJudge, Side, sides, sumsJudged, sumsVerdict}
+use Rattle.acceptance.specs.Check.{Verdict, fine, thenJudge, Side, sides, sumsJudged, sumsVerdict}
 use Rattle.sumlines.specs.Lines.{sumsAt}
 use Rattle.sumorder.specs.Reached.{Past, Reached, SumsStart}
 use Rattle.sumorder.specs.Row.{rowVerdict}
@@ -30,6 +30,7 @@ use Rattle.kindsums.specs.Judged.{verdictOf, LeftBehind}
 use Rattle.lapsums.specs.declared.Checked.{Checked}
 use Rattle.lapsums.specs.declared.Checked.the-variants.{Rejected}
 use Rattle.lapsums.specs.Answer.{answerOf}
+use Rattle.lapsums.proofs.Answers.{refused-answer}
 
 -- The sides from a kind on.
 abbrev left : List ℕ → ℕ → List Side
@@ -65,11 +66,6 @@ kind-step t kind some most = go (ℕ-discrete kind 1)
       sums = λ q. omega arith;
       over = rw (polynomials-count t 1 (gensIn t)) (relations-over (headIn t));
     })
-
--- The answer of a verdict that refuses, and of an equal verdict.
-refused-answer : (v : Verdict) (n k count : ℕ) → v ≡ refusal n k → Rejected n k ≡ answerOf v count
-unfolding answerOf
-refused-answer v n k count e = rw e
 
 module _ (t bytes : List ℕ) (from first : ℕ) where
   abbrev K : Operations

@@ -5,6 +5,8 @@ use kindsums::SumsAnswer;
 use kindsums::judging::judge_sums;
 use lapsums::Checked;
 use lapsums::laps::judge_laps;
+use package::SUM_B;
+use package::SUM_O;
 use table::Table;
 use working::formula::start;
 ghost use mathlib.Core.Path.{_≡_};
@@ -14,12 +16,11 @@ ghost use Rattle.acceptance.specs.Check.{sumsVerdict};
 ghost use Rattle.sumlines.specs.Lines.{sumsAt};
 ghost use Rattle.sumorder.specs.Reached.{SumsStart};
 ghost use Rattle.table.specs.Table.{fieldIn, orderIn};
-ghost use Rattle.table.specs.Polynomials.{relationsIn, basisIn};
+ghost use Rattle.table.specs.Polynomials.{relationsIn, basisIn, BasisNonzero};
 ghost use Rattle.table.specs.Tabled.{Tabled};
 ghost use Rattle.packedterms.specs.Formula.{Room};
 ghost use Rattle.tablesums.specs.Leading.{HeadsIn};
 ghost use Rattle.tablesums.specs.Heading.{headIn};
-ghost use Rattle.lapsums.specs.Heading.{Nonzero};
 ghost use Rattle.lapsums.specs.Answer.{answerOf};
 
 // The check of the package that t holds: its sum lines stand in the bytes from the place from on, where the line has the number first, and heads
@@ -36,7 +37,7 @@ pub fn check(
     w: &mut [u64; 3360],
     o: &mut [u16; 560],
 ) -> Checked
-    requires { ⌜ Tabled (now t) × HeadsIn (now t) (now heads) (now headlens) (now bytes) × Nonzero (now t) ⌝ }
+    requires { ⌜ Tabled (now t) × HeadsIn (now t) (now heads) (now headlens) (now bytes) × BasisNonzero (now t) ⌝ }
     requires { ⌜ SumsStart (headIn (now t)) (now bytes) from first ⌝ }
     requires { ⌜ Room (now c) (now l) (now w) (now o) ⌝ }
     ensures { λ r. ⌜
@@ -51,8 +52,8 @@ pub fn check(
     start(o);
     let mut at = from;
     let mut line = first;
-    let mut kind = 1;
-    while kind < 3 {
+    let mut kind = SUM_B;
+    while kind < SUM_O {
         let r = judge_sums(t, kind, bytes, at, line, c, l, w, o);
         match r {
             SumsAnswer::Refused { number, place } => {

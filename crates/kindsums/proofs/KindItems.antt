@@ -23,10 +23,10 @@ use Rattle.sumlines.specs.Lines.{takenLine}
 use Rattle.table.specs.Table.{gensIn, basisCountIn, itemsIn, fieldIn, orderIn}
 use Rattle.table.specs.Polynomials.{polynomialIn, relationsIn, basisIn}
 use Rattle.table.specs.Tabled.{Tabled}
+use Rattle.table.specs.Words.{lineOf}
 use Rattle.table.proofs.Families.{polynomials-count, family-relations, family-basis}
 use Rattle.packedterms.specs.Formula.{formula, Holds, Working}
 use Rattle.tablesums.specs.declared.Sizes.{Sizes}
-use Rattle.tablesums.specs.Lines.{lineHeld}
 use Rattle.tablesums.specs.ShortWords.{ShortWord}
 use Rattle.tablesums.proofs.TakenLines.{without, without-basis, without-relation, line-packed}
 use Rattle.tablesums.specs.Heading.{headIn}
@@ -44,7 +44,7 @@ pub record KindItems (t : List ℕ) (side : Side) (most : ℕ) (k : KindNumbers)
   pub other-in : (of : ℕ) → of ≤ most → k .others + of ≤ itemsIn t
   pub written : All (Written (fieldIn t) (orderIn t)) (side .targets)
   pub taken : (f : Poly) (x : ℕ) (z : Sizes) (left right : List ℕ) (of : ℕ) → 1 ≤ of → of ≤ most
-      → without t f x z left right (k .others + of) ≡ takeAway (fieldIn t) (orderIn t) (family (side .others)) f (lineHeld t x z left of right)
+      → without t f x z left right (k .others + of) ≡ takeAway (fieldIn t) (orderIn t) (family (side .others)) f (lineOf t x (z .left) left of (z .right) right)
 
 module _ (t : List ℕ) (T : Tabled t) where
   by-basis : (item : ℕ) → 1 ≤ item → item ≤ basisCountIn t → family (basisIn t) item ≡ polynomialIn t (gensIn t + item)

@@ -20,7 +20,7 @@ use Rattle.lapsums.specs.Judged.{lapsVerdictOf, LapsBehind}
 use Rattle.lapsums.specs.Answer.{answerOf}
 
 -- A verdict's answer.
-refused-answer : (v : Verdict) (n k count : ℕ) → v ≡ refusal n k → Rejected n k ≡ answerOf v count
+pub refused-answer : (v : Verdict) (n k count : ℕ) → v ≡ refusal n k → Rejected n k ≡ answerOf v count
 unfolding answerOf
 refused-answer v n k count e = rw e
 

@@ -11,13 +11,13 @@ use Rattle.algebra.specs.Ideal.{family}
 use Rattle.overlaps.specs.Position.{AtMost24}
 use Rattle.table.specs.Table.{gensIn, basisCountIn, firstIn, sizeIn}
 use Rattle.table.specs.Tabled.{Tabled}
+use Rattle.table.specs.Polynomials.{BasisNonzero}
 use Rattle.table.proofs.Families.{polynomials-count}
 use Rattle.table.proofs.LeadingTerms.{lead-term}
 use Rattle.tablesums.specs.Leading.{Leads, HeadsIn}
 use Rattle.tablesums.proofs.LeadingWords.{lead-laid}
-use Rattle.lapsums.specs.Heading.{Nonzero}
 
-pub basis-leads : (t : List ℕ) → Nonzero t → (g : ℕ) → 1 ≤ g → g ≤ basisCountIn t → Leads t g
+pub basis-leads : (t : List ℕ) → BasisNonzero t → (g : ℕ) → 1 ≤ g → g ≤ basisCountIn t → Leads t g
 unfolding family
 basis-leads t h zero some most = absurd (omega arith)
 basis-leads t h (suc k) some most = record {
@@ -26,7 +26,7 @@ basis-leads t h (suc k) some most = record {
   nonzero = all-at h [] k (omega (arith, polynomials-count t (gensIn t + 1) (basisCountIn t)));
 }
 
-pub heads-short : {t heads headlens bytes : List ℕ} → Tabled t → Nonzero t → HeadsIn t heads headlens bytes
+pub heads-short : {t heads headlens bytes : List ℕ} → Tabled t → BasisNonzero t → HeadsIn t heads headlens bytes
     → AtMost24 headlens (basisCountIn t)
 heads-short {t} {heads} {headlens} {bytes} T h H g l =
     let L = lead-term t T (suc g) (basis-leads t h (suc g) (omega arith) (omega arith) .nonzero) in

@@ -1,5 +1,5 @@
--- What other crates cite: leading words of a basis without a zero polynomial.
-pub mod BasisLeads
+-- What other crates cite: the answer of a verdict.
+pub mod Answers
+mod BasisLeads
 mod CountedHeads
 mod OverlapsJudging
-mod Answers

@@ -30,8 +30,8 @@ use Rattle.sumorder.proofs.NextLine.{NextLine, next-line, lines-are, its-kind, 
 use Rattle.sumorder.proofs.ItemJudging.{itemThen, line-fails, line-over, line-more, item-wrong, item-right}
 use Rattle.table.specs.Table.{primeIn, gensIn, basisCountIn, fieldIn, orderIn}
 use Rattle.table.specs.Polynomials.{basisIn}
+use Rattle.table.specs.Words.{lineOf}
 use Rattle.tablesums.specs.declared.Sizes.{Sizes}
-use Rattle.tablesums.specs.Lines.{lineHeld}
 use Rattle.tablesums.specs.ShortWords.{ShortWord}
 use Rattle.tablesums.specs.Heading.{headIn}
 use Rattle.tablesums.proofs.TakenLines.{line-packed, without-basis}
@@ -128,11 +128,11 @@ module _ (t bytes : List ℕ) (ws : List Word) (whole : Verdict) (total : ℕ) (
       module _ (z : Sizes) (left right : List ℕ) (l : ShortWord t (part bytes (s .left) (s .leftlen)) (z .left) left)
           (r : ShortWord t (part bytes (s .right) (s .rightlen)) (z .right) right) where
         pub line-tested : (m : Word) → m ≡ overlapWord G (overlapOf (cursorOf f)) → (b : Bool)
-            → ((y : ℕ) → b ≡ isUnder O G m (lineHeld t y z left (s .of) right)) → (a : Bool) → b ≡ a
+            → ((y : ℕ) → b ≡ isUnder O G m (lineOf t y (z .left) left (s .of) (z .right) right)) → (a : Bool) → b ≡ a
             → test (takenLine bytes s) ≡ a
         line-tested m q b h a e =
             ap test (sym (line-packed t bytes s z left right l r))
-            ∙ ap (λ (v : Word). isUnder O G v (lineHeld t (s .coef) z left (s .of) right)) (sym q) ∙ sym (h (s .coef)) ∙ e
+            ∙ ap (λ (v : Word). isUnder O G v (lineOf t (s .coef) (z .left) left (s .of) (z .right) right)) (sym q) ∙ sym (h (s .coef)) ∙ e
 
         pub line-taken : (j : ℕ) → j ≡ gensIn t → taken t g (s .coef) z left right (j + s .of) ≡ takeAway K O G g (takenLine bytes s)
         line-taken j e =

@@ -1,4 +1,3 @@
 -- What contracts cite of the sums of the overlaps.
-pub mod Heading
 pub mod Judged
 pub mod Answer

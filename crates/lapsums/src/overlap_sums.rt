@@ -5,6 +5,7 @@ use crate::beginning::start_lap;
 use itemadding::taking::take_item;
 use overlapwords::overlap_at::first_overlap;
 use overlapwords::overlap_at::overlap_behind;
+use package::SUM_O;
 use sumlines::sum_line::is_item;
 use sumlines::sum_line::line_at;
 use table::Table;
@@ -21,13 +22,12 @@ ghost use Rattle.overlaps.specs.Overlaps.{leads, overlaps};
 ghost use Rattle.acceptance.specs.Check.{overlapsJudged};
 ghost use Rattle.sumlines.specs.Lines.{sumsAt};
 ghost use Rattle.sumorder.specs.Reached.{Reached};
-ghost use Rattle.table.specs.Polynomials.{basisIn};
+ghost use Rattle.table.specs.Polynomials.{basisIn, BasisNonzero};
 ghost use Rattle.table.specs.Table.{fieldIn, orderIn};
 ghost use Rattle.table.specs.Tabled.{Tabled};
 ghost use Rattle.packedterms.specs.Formula.{Room};
 ghost use Rattle.tablesums.specs.Leading.{HeadsIn};
 ghost use Rattle.tablesums.specs.Heading.{headIn};
-ghost use Rattle.lapsums.specs.Heading.{Nonzero};
 ghost use Rattle.lapsums.specs.Judged.{lapsVerdictOf, LapsBehind};
 
 // The sums of all overlaps of the basis, whose leading words lie in the bytes: their lines stand from the place from on, where the line has the
@@ -45,7 +45,7 @@ pub fn judge_overlaps(
     w: &mut [u64; 3360],
     o: &mut [u16; 560],
 ) -> LapsAnswer
-    requires { ⌜ Tabled (now t) × HeadsIn (now t) (now heads) (now headlens) (now bytes) × Nonzero (now t) ⌝ }
+    requires { ⌜ Tabled (now t) × HeadsIn (now t) (now heads) (now headlens) (now bytes) × BasisNonzero (now t) ⌝ }
     requires { ⌜ Reached (headIn (now t)) sumO 1 (now bytes) from first ⌝ }
     requires { ⌜ Arranged (now o) × Room (now c) (now l) (now w) (now o) ⌝ }
     ensures { λ r. ⌜
@@ -75,7 +75,7 @@ pub fn judge_overlaps(
         let item = i + 1;
         let x = start_lap(t, f, &mut lap, c, l, w, o);
         let mut n = x.terms;
-        while is_item(s, 3, item) {
+        while is_item(s, SUM_O, item) {
             let z = pack_sides(t, bytes, s, &mut left, &mut right);
             if !is_under(t, s.of, z, &left, &right, &lap, x.size, &mut buf) {
                 answer = LapsAnswer::Stopped {

@@ -11,7 +11,7 @@ use Rattle.packedwords.specs.Packed.{Codes, value, window}
 use Rattle.packedwords.proofs.Values.{value-front}
 use Rattle.packedwords.proofs.Windows.{window-front, window-last, window-drop, window-whole}
 use Rattle.packedwords.proofs.Parts.{codes-drop, codes-take}
-use Rattle.packing.proofs.Entries.{part-at}
+use Rattle.lists.proofs.Entries.{part-at}
 use Rattle.leads.specs.CodeSearch.{Fronted}
 
 module _ (w : Word) (c : Codes w) (i : ℕ) where

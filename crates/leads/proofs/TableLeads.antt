@@ -1,24 +1,22 @@
 -- The leading words of a table's basis, by their numbers: there are as many as basis polynomials, and they have an index.
 use mathlib.Core.Path.{_≡_, refl, sym, _∙_, ap}
-use mathlib.Core.Logic.{_≢_}
 use mathlib.Core.List.{List, []}
 use Prim.Native.Nat.{ℕ, zero, suc, _+_, _-_, _%_, _≤_, _<_}
 use native.Mathlib.Nat.{add-zero}
 use native.Mathlib.Decide.{decLt}
 use native.Mathlib.Omega.{arith}
 use lib.ListN.{length, getD}
-use Rattle.lists.specs.All.{All}
 use Rattle.lists.proofs.Every.{all-at, all-by-index}
 use Rattle.algebra.specs.Ideal.{family}
 use Rattle.working.specs.Working.{terms}
 use Rattle.packedwords.specs.Packed.{Codes, Nonzero, unpacked}
 use Rattle.packedwords.proofs.Packing.{unpacked-length, unpacked-codes}
-use Rattle.table.specs.Table.{gensIn, basisCountIn, termsIn, firstIn, sizeIn, blocksIn}
-use Rattle.table.specs.Polynomials.{termIn, polynomialIn, basisIn}
+use Rattle.table.specs.Table.{gensIn, basisCountIn, termsIn, itemsIn, firstIn, sizeIn, blocksIn}
+use Rattle.table.specs.Polynomials.{termIn, polynomialIn, BasisNonzero}
 use Rattle.table.specs.Tabled.{Tabled}
 use Rattle.table.proofs.Families.{polynomials-count, family-basis}
 use Rattle.leads.specs.CodeIndex.{CodeIndexable}
-use Rattle.leads.specs.LeadCodes.{codesIn, leadCodesFrom, leadCodesIn, BasisLeads}
+use Rattle.leads.specs.LeadCodes.{codesIn, leadCodesFrom, leadCodesIn}
 
 module _ (t : List ℕ) where
   pub lead-codes-length : (j n : ℕ) → length (leadCodesFrom t j n) ≡ n
@@ -34,27 +32,10 @@ module _ (t : List ℕ) where
       let e : suc j + g ≡ j + suc g = omega arith in
       lead-codes-at (suc j) n g (omega arith) ∙ ap (λ (i : ℕ). codesIn t (firstIn t i)) e
 
-  -- leading word g, as it is read: base is the item of the first, i the term, s its size
-  module _ (g base i s : ℕ) (b : base ≡ gensIn t + 1) (e : i ≡ firstIn t (base + g)) where
-    term-read : firstIn t (gensIn t + 1 + g) ≡ i
-    term-read = ap (λ (j : ℕ). firstIn t (j + g)) (sym b) ∙ sym e
-
-    pub lead-read : s ≡ sizeIn t i → g < basisCountIn t → getD (leadCodesIn t) g [] ≡ unpacked (s % 256) (blocksIn t i)
-    lead-read f h =
-        lead-codes-at (gensIn t + 1) (basisCountIn t) g h ∙ ap (codesIn t) term-read ∙ ap (λ (z : ℕ). unpacked (z % 256) (blocksIn t i)) (sym f)
-
-    pub term-inside : Tabled t → BasisLeads t → g < basisCountIn t → i < termsIn t
-    term-inside h l p =
-        let j = gensIn t + 1 + g in
-        let q = l j (omega arith) (omega arith) in
-        let r = h .most j (omega arith) (omega arith) in
-        let u = term-read in
-        omega arith
-
-  -- A basis without a zero polynomial has leading words.
-  pub nonzero-leads : All (λ f. f ≢ []) (basisIn t) → BasisLeads t
+  -- Where no polynomial of the basis is zero, each has a term.
+  pub item-begins : BasisNonzero t → (j : ℕ) → gensIn t < j → j ≤ itemsIn t → firstIn t j < firstIn t (suc j)
   unfolding family terms
-  nonzero-leads z j lo hi = go (decLt (firstIn t j) (firstIn t (suc j)))
+  item-begins z j lo hi = go (decLt (firstIn t j) (firstIn t (suc j)))
     where
       k : ℕ
       k = j - gensIn t - 1
@@ -68,7 +49,24 @@ module _ (t : List ℕ) where
           let empty : polynomialIn t j ≡ [] = ap (terms (termIn t) (firstIn t j)) none in
           absurd (all-at z [] k (omega arith) (family-basis t k (omega arith) ∙ ap (polynomialIn t) e ∙ empty))
 
-  module _ (h : Tabled t) (l : BasisLeads t) where
+  -- leading word g, as it is read: base is the item of the first, i the term, s its size
+  module _ (g base i s : ℕ) (b : base ≡ gensIn t + 1) (e : i ≡ firstIn t (base + g)) where
+    term-read : firstIn t (gensIn t + 1 + g) ≡ i
+    term-read = ap (λ (j : ℕ). firstIn t (j + g)) (sym b) ∙ sym e
+
+    pub lead-read : s ≡ sizeIn t i → g < basisCountIn t → getD (leadCodesIn t) g [] ≡ unpacked (s % 256) (blocksIn t i)
+    lead-read f h =
+        lead-codes-at (gensIn t + 1) (basisCountIn t) g h ∙ ap (codesIn t) term-read ∙ ap (λ (z : ℕ). unpacked (z % 256) (blocksIn t i)) (sym f)
+
+    pub term-inside : Tabled t → BasisNonzero t → g < basisCountIn t → i < termsIn t
+    term-inside h l p =
+        let j = gensIn t + 1 + g in
+        let q = item-begins l j (omega arith) (omega arith) in
+        let r = h .most j (omega arith) (omega arith) in
+        let u = term-read in
+        omega arith
+
+  module _ (h : Tabled t) (l : BasisNonzero t) where
     pub leads-indexable : CodeIndexable (leadCodesIn t)
     leads-indexable =
         let n = lead-codes-length (gensIn t + 1) (basisCountIn t) in

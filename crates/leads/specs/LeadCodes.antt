@@ -1,9 +1,9 @@
 -- The leading words of a table's basis, as words of codes.
 use mathlib.Core.List.{List, [], _∷_}
-use Prim.Native.Nat.{ℕ, zero, suc, _+_, _%_, _≤_, _<_}
+use Prim.Native.Nat.{ℕ, zero, suc, _+_, _%_}
 use Rattle.words.specs.Word.{Word}
 use Rattle.packedwords.specs.Packed.{unpacked}
-use Rattle.table.specs.Table.{gensIn, basisCountIn, itemsIn, firstIn, sizeIn, blocksIn}
+use Rattle.table.specs.Table.{gensIn, basisCountIn, firstIn, sizeIn, blocksIn}
 
 -- The codes of the word of term i.
 abbrev pub codesIn : List ℕ → ℕ → Word
@@ -17,7 +17,3 @@ leadCodesFrom t j (suc n) = codesIn t (firstIn t j) ∷ leadCodesFrom t (suc j) 
 -- The leading words of the basis.
 abbrev pub leadCodesIn : List ℕ → List Word
 leadCodesIn t = leadCodesFrom t (gensIn t + 1) (basisCountIn t)
-
--- Each polynomial of the basis has a term, and so a leading word.
-abbrev pub BasisLeads : List ℕ → Type 0
-BasisLeads t = (j : ℕ) → gensIn t < j → j ≤ itemsIn t → firstIn t j < firstIn t (suc j)

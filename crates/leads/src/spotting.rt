@@ -4,14 +4,15 @@
 use crate::Spotted;
 use crate::masks::lowest;
 use packing::block::up;
+use packing::part::block_at;
 use packing::part::window_at;
 ghost use mathlib.Core.Path.{_≡_};
 ghost use mathlib.Core.Bool.{false};
 ghost use mathlib.Core.List.{List};
 ghost use Prim.Native.Nat.{ℕ, _+_, _*_, _/_, _%_, _≤_, _<_, _^_, min};
-ghost use lib.ListN.{length, getD, take, drop};
+ghost use lib.ListN.{length, take, drop};
 ghost use Rattle.words.specs.Word.{Word};
-ghost use Rattle.packedwords.specs.Packed.{Blocks, windowOf, unpacked, Packs};
+ghost use Rattle.packedwords.specs.Packed.{windowOf, unpacked, Packs};
 ghost use Rattle.leads.specs.CodeIndex.{CodeIndexed};
 ghost use Rattle.leads.specs.CodeSearch.{Windowed, BegunFrom, SearchedBetween};
 ghost use Rattle.leads.specs.SpotOfWords.{seen, spotOfWords};
@@ -99,18 +100,6 @@ fn begun_at(index: &[u64; 832], x: u64, word: &[u64], i: usize) -> u64
     0
 }
 
-// The block behind block j, and 0 behind the last.
-fn block_behind(word: &[u64], j: usize) -> u64
-    requires { ⌜ (j < length (now word)) × Blocks (now word) ⌝ }
-    ensures { λ r. ⌜ (r ≡ getD (now (word .entry)) (j + 1) 0) × (r < 2 ^ 60) ⌝ }
-{
-    let k = j + 1;
-    if k < word.len() {
-        return word[k];
-    }
-    0
-}
-
 // The leftmost place of a leading word from the first place of block j on, before place `end`. x has the letters from place i on, y those of the
 // block behind that are not yet in x, both moved up.
 fn spot_in_block(index: &[u64; 832], word: &[u64], j: usize, end: usize) -> Spotted
@@ -119,7 +108,7 @@ fn spot_in_block(index: &[u64; 832], word: &[u64], j: usize, end: usize) -> Spot
     ensures { λ r. ⌜ SearchedBetween (now (index .entry)) (now (word .entry)) (12 * j) end (seen r) ⌝ }
 {
     let mut x = high(word[j]);
-    let mut y = high(block_behind(word, j));
+    let mut y = high(block_at(word, j + 1));
     let mut i = 12 * j;
     while i < end {
         let begun = begun_at(index, x, word, i);

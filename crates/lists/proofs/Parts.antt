@@ -7,17 +7,6 @@ use native.Mathlib.Omega.{arith}
 use lib.ListN.{length, take, drop, length-drop}
 use lib.Seq.{take-take, take-all, length-take-le}
 
-take-none : (n : ℕ) → take {A = ℕ} n [] ≡ []
-take-none zero = refl
-take-none (suc n) = refl
-
--- What is left behind a entries of the first b.
-pub drop-take : (a b : ℕ) (l : List ℕ) → drop a (take b l) ≡ take (b - a) (drop a l)
-drop-take zero b l = let e : b - 0 ≡ b = omega arith in rw e
-drop-take (suc a) zero l = let e : 0 - suc a ≡ 0 = omega arith in rw e
-drop-take (suc a) (suc b) [] = rw (take-none (suc b - suc a))
-drop-take (suc a) (suc b) (x ∷ l) = let e : suc b - suc a ≡ b - a = omega arith in rw e (drop-take a b l)
-
 -- The part from a to a + n has n entries where it lies in the list.
 pub part-length : (a n : ℕ) (l : List ℕ) → a + n ≤ length l → length (take n (drop a l)) ≡ n
 part-length a n l h = length-take-le n (drop a l) (rw length-drop (omega arith))

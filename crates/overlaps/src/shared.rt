@@ -1,8 +1,9 @@
 // How many letters two leading words share: the last letters of the first are the first letters of the second.
 
+use lists::numbers::lesser;
 use wordplaces::two_letters::two_same;
 ghost use mathlib.Core.Path.{_≡_};
-ghost use Prim.Native.Nat.{_-_, _≤_, _<_, min};
+ghost use Prim.Native.Nat.{_-_, _≤_, _<_};
 ghost use lib.ListN.{length};
 ghost use Rattle.overlaps.specs.Overlaps.{shares};
 ghost use Rattle.overlaps.specs.Position.{nextAgreeing, sharedBy};
@@ -15,16 +16,6 @@ pub fn is_shared(u: &[u8], v: &[u8], n: usize) -> bool
     let at = u.len() - n;
     let stood = wordplaces::place::stands_at(&v[0..n], u, at);
     stood.stands
-}
-
-// The lesser of two numbers.
-pub fn lesser(a: usize, b: usize) -> usize
-    ensures { λ r. ⌜ r ≡ min a b ⌝ }
-{
-    if a < b {
-        return a;
-    }
-    b
 }
 
 // The least number k from n on where v's letters k - 2 and k - 1 are u's last two, or most. Where they are not, k letters are not shared.

@@ -2,12 +2,10 @@
 use mathlib.Core.Path.{_≡_, refl}
 use mathlib.Core.Bool.{Bool, true, false, false≢true}
 use mathlib.Core.List.{List}
-use Prim.Native.Nat.{ℕ, _+_, _≤_}
+use Prim.Native.Nat.{ℕ, _≤_}
 use native.Mathlib.Omega.{arith}
-use lib.Dec.{ltb}
 use lib.ListN.{length}
-use borrow.Author.Tests.{ltb-false}
-use Rattle.package.proofs.LineBounds.{items-most}
+use Rattle.package.proofs.LineBounds.{items-most, word-short}
 use Rattle.package.proofs.TermBlockTexts.{accepted}
 use Rattle.package.specs.Bounds.{coefFits, wordFits}
 use Rattle.package.specs.Names.{termG, termB}
@@ -15,7 +13,7 @@ use Rattle.package.specs.Terms.{itemsOf, termFits, LineAbove, accept, ju
 use Rattle.package.specs.declared.Head.{Head}
 use Rattle.package.specs.declared.Limits.{Limits}
 use Rattle.text.proofs.Bytewise.{within-bounds}
-use Rattle.text.specs.Bytes.{within, allWithin}
+use Rattle.text.specs.Bytes.{within}
 
 -- A term whose kind is one of block 2, whose item is one of at most 64, and whose word has at most len letters.
 pub record SmallTerm (len k i : ℕ) (w : List ℕ) : Type 0 where
@@ -41,14 +39,6 @@ module _ (h : Head) (lim : Limits) (k i c : ℕ) (w : List ℕ) where
       go true true e = e
       go true false e = absurd (false≢true e)
       go false u e = absurd (false≢true e)
-
-word-short : (most letters : ℕ) (w : List ℕ) → wordFits most letters w ≡ true → length w ≤ most
-unfolding wordFits
-word-short most letters w = go (ltb most (length w)) refl
-  where
-    go : (t : Bool) → ltb most (length w) ≡ t → _≡_ {A = Bool} (elim t [ true ↦ false | false ↦ allWithin 97 (96 + letters) w ]) true → length w ≤ most
-    go true q e = absurd (false≢true e)
-    go false q e = ltb-false most (length w) q
 
 -- A line that is accepted is such a term.
 pub accepted-small : (h : Head) (lim : Limits) (a : LineAbove) (n : ℕ) (l : List ℕ) (k i c : ℕ) (w : List ℕ) → h .gens ≤ 32 → h .basis ≤ 64

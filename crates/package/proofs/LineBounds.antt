@@ -6,7 +6,7 @@ use Prim.Native.Nat.{ℕ, _+_, _≤_, _<_}
 use native.Mathlib.Omega.{arith}
 use lib.Dec.{ltb, eqb}
 use lib.ListN.{length}
-use borrow.Author.Tests.{ltb-true}
+use borrow.Author.Tests.{ltb-true, ltb-false}
 use Rattle.package.proofs.CountsLine.{counts-bounds}
 use Rattle.package.specs.Bounds.{coefFits, wordFits}
 use Rattle.package.specs.Head.{fieldFits, countsFit}
@@ -39,6 +39,14 @@ coef-below p c = go (ltb 0 c)
     go : (t : Bool) → _≡_ {A = Bool} (elim t [ false ↦ false | true ↦ ltb c p ]) true → c < p
     go false h = absurd (false≢true h)
     go true h = ltb-true c p h
+
+pub word-short : (most letters : ℕ) (w : List ℕ) → wordFits most letters w ≡ true → length w ≤ most
+unfolding wordFits
+word-short most letters w = go (ltb most (length w)) refl
+  where
+    go : (t : Bool) → ltb most (length w) ≡ t → _≡_ {A = Bool} (elim t [ true ↦ false | false ↦ allWithin 97 (96 + letters) w ]) true → length w ≤ most
+    go true q h = absurd (false≢true h)
+    go false q h = ltb-false most (length w) q
 
 pub word-letters : (most letters : ℕ) (w : List ℕ) → letters ≤ 26 → wordFits most letters w ≡ true → allWithin 97 122 w ≡ true
 unfolding wordFits

@@ -43,7 +43,7 @@ module _ (t : List ℕ) (T : Tabled t) (index : List ℕ) (L : LeadsIn t index) 
   -- the spot of a packed word is that of its letters
   pub packed-spot : (n : ℕ) (bs : List ℕ) → spotOfWords (leadCodesIn t) (unpacked n bs) ≡ spot (basisIn t) (map (letterIn t) (unpacked n bs))
   packed-spot n bs =
-      spot-of-table t (L .leads) (λ (c : ℕ). c < 32) (T .keys .own) (lead-codes-all t (gensIn t + 1) (basisCountIn t)) (unpacked n bs)
+      spot-of-table t (L .nonzero) (λ (c : ℕ). c < 32) (T .keys .own) (lead-codes-all t (gensIn t + 1) (basisCountIn t)) (unpacked n bs)
       (codes-all (unpacked n bs) (unpacked-codes n bs))
 
   module _ (c l w o : List ℕ) (n : ℕ) where

@@ -6,7 +6,7 @@ use native.Mathlib.Decide.{decLt}
 use native.Mathlib.Omega.{arith}
 use Rattle.words.specs.declared.Comparison.{Comparison}
 use Rattle.words.specs.declared.Comparison.the-variants.{Below, Equal, Above}
-use Rattle.packing.proofs.Entries.{below-next}
+use Rattle.lists.proofs.Entries.{below-next}
 use Rattle.packedterms.specs.Finding.{Sinking, BelowFirst, Belonging}
 
 module _ (S : ℕ → Comparison) (n : ℕ) where

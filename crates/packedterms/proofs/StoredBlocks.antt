@@ -6,7 +6,7 @@ use native.Mathlib.Omega.{arith}
 use lib.ListN.{length, getD, take, drop, set}
 use lib.Seq.{sets, sets-eq, length-sets, length-take-le, take-at, drop-at, getD-set-other, ext-getD}
 use Rattle.lists.proofs.Parts.{part-length}
-use Rattle.packing.proofs.Entries.{part-at}
+use Rattle.lists.proofs.Entries.{part-at}
 use Rattle.packedterms.specs.Formula.{blocksAt}
 
 -- The entries that were stored.

@@ -15,7 +15,7 @@ use Rattle.packedwords.proofs.Windows.{window-front, window-last}
 use Rattle.packedwords.proofs.Packing.{unpacked-length, unpacked-codes}
 use Rattle.packedwords.proofs.Blocks.{packs-any}
 use Rattle.packedwords.proofs.Parts.{packs-part}
-use Rattle.packing.proofs.Entries.{part-at}
+use Rattle.lists.proofs.Entries.{part-at}
 use Rattle.packedterms.specs.Formula.{blocksAt}
 
 -- The front of a run stored, and then what is behind it.

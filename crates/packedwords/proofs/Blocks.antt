@@ -6,14 +6,10 @@ use native.Mathlib.Decide.{decLt}
 use native.Mathlib.Omega.{arith}
 use lib.ListN.{length, getD, take, replicate, length-append, List·getD-eq-default}
 use lib.Seq.{getD-take, length-take-le}
+use Rattle.lists.proofs.Entries.{zeros-at}
 use Rattle.packedwords.specs.Packed.{Blocks, window, windowOf, unpacked, Packs}
 use Rattle.packedwords.proofs.Packing.{packed-at, unpacked-codes, unpacked-length, packs-of}
 use Rattle.packedwords.proofs.Windows.{window-lt, window-end, window-blocks}
-
-pub zeros-at : (m j : ℕ) → _≡_ {A = ℕ} (getD (replicate {A = ℕ} m 0) j 0) 0
-zeros-at zero j = refl
-zeros-at (suc m) zero = refl
-zeros-at (suc m) (suc j) = zeros-at m j
 
 module _ (n : ℕ) (bs : List ℕ) (h : Packs n bs) where
   -- Block j is the block of the twelve letters from 12 * j on, for every j: behind the last block both are 0.

@@ -10,8 +10,7 @@ use Rattle.words.specs.Word.{Word}
 use Rattle.packedwords.specs.Packed.{Codes, window, unpacked, Packs}
 use Rattle.packedwords.proofs.Packing.{packs-of}
 use Rattle.packedwords.proofs.Windows.{window-end}
-use Rattle.packedwords.proofs.Blocks.{zeros-at}
-use Rattle.packing.proofs.Entries.{below-next}
+use Rattle.lists.proofs.Entries.{zeros-at, below-next}
 
 -- The first j blocks are those of w, and the others are 0.
 pub record Filled (w : Word) (j : ℕ) (E : List ℕ) : Type 0 where

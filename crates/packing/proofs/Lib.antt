@@ -1,4 +1,3 @@
-pub mod Entries
 pub mod PartOrder
 pub mod Filling
 pub mod Stores

@@ -12,7 +12,7 @@ use Rattle.words.specs.Order.{byNumber, byLetters}
 use Rattle.words.proofs.Lexicographic.{number-less, number-greater, number-same}
 use Rattle.packedwords.specs.Codes.{itself}
 use Rattle.packedwords.proofs.BlockOrder.{decides-inside}
-use Rattle.packing.proofs.Entries.{part-at}
+use Rattle.lists.proofs.Entries.{part-at}
 
 module _ (u v : List ℕ) (at bt k : ℕ) (h : at + k ≤ length u) (m : bt + k ≤ length v) where
   abbrev s : List ℕ

@@ -9,9 +9,9 @@ use lib.Seq.{getD-set-same, getD-set-other}
 use Rattle.packedwords.specs.Packed.{unpacked, Packs}
 use Rattle.packedwords.proofs.Packing.{unpacked-length}
 use Rattle.packedwords.proofs.Windows.{window-end}
-use Rattle.packedwords.proofs.Blocks.{packs-any, packs-blocks, zeros-at}
+use Rattle.packedwords.proofs.Blocks.{packs-any, packs-blocks}
 use Rattle.packedwords.proofs.Appending.{product-holds}
-use Rattle.packing.proofs.Entries.{part-at}
+use Rattle.lists.proofs.Entries.{part-at, zeros-at}
 
 -- the two blocks of a part of a slice
 

@@ -8,7 +8,7 @@ ghost use lib.ListN.{length, getD, set, take, drop, replicate};
 ghost use Rattle.packedwords.specs.Packed.{Blocks, windowOf, front, unpacked, Packs};
 
 // Block j of w, and 0 where there is none.
-fn block_at(w: &[u64], j: usize) -> u64
+pub fn block_at(w: &[u64], j: usize) -> u64
     requires { ⌜ Blocks (now w) ⌝ }
     ensures { λ r. ⌜ (r ≡ getD (now (w .entry)) j 0) × (r < 2 ^ 60) ⌝ }
 {

@@ -16,9 +16,7 @@ use Rattle.acceptance.specs.Acceptance.{acceptance}
 use Rattle.acceptance.specs.Reduction.{formulaLimits, refusedBy, reductionOf, formulaReduced, packageReduced, reduction}
 use Rattle.acceptance.proofs.BasisFacts.{fine-nonzero}
 use Rattle.table.specs.Table.{primeIn, lettersIn, fieldIn, orderIn}
-use Rattle.table.specs.Polynomials.{basisIn}
-use Rattle.leads.specs.LeadCodes.{BasisLeads}
-use Rattle.leads.proofs.TableLeads.{nonzero-leads}
+use Rattle.table.specs.Polynomials.{basisIn, BasisNonzero}
 use Rattle.tablesums.specs.Heading.{headIn}
 use Rattle.accepting.specs.Accepted.{TableAccepted}
 use Rattle.reducing.specs.Reductions.{reducedBy}
@@ -40,9 +38,9 @@ unfolding reducedBy
 run-reduced t budget f g u e q = ap (λ (h : Poly). reductionOf budget (run 512 (fieldIn t) (orderIn t) (basisIn t) budget 0 h)) q ∙ sym (ap (reducedBy t budget) e)
 
 module _ {bytes t : List ℕ} (a : TableAccepted bytes t) where
-  -- Each polynomial of an accepted basis has a leading word.
-  pub accepted-leads : BasisLeads t
-  accepted-leads = nonzero-leads t (subst (All (λ f. f ≢ [])) (sym (a .basis)) (fine-nonzero (basis (a .whole)) (a .sound)))
+  -- No polynomial of an accepted basis is zero.
+  pub accepted-nonzero : BasisNonzero t
+  accepted-nonzero = subst (All (λ f. f ≢ [])) (sym (a .basis)) (fine-nonzero (basis (a .whole)) (a .sound))
 
   -- Under an accepted package the formula decides.
   pub table-reduced : (text : List ℕ) (budget : ℕ)

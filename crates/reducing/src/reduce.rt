@@ -20,15 +20,17 @@ ghost use Rattle.algebra.specs.Steps as steps;
 ghost use Rattle.package.specs.Formula.{readFormula};
 ghost use Rattle.acceptance.specs.Reduction.{formulaLimits, reductionOf, reduction};
 ghost use Rattle.table.specs.Table.{primeIn, lettersIn, fieldIn, orderIn};
-ghost use Rattle.table.specs.Polynomials.{basisIn};
+ghost use Rattle.table.specs.Polynomials.{basisIn, BasisNonzero};
 ghost use Rattle.table.specs.Tabled.{Tabled};
-ghost use Rattle.leads.specs.LeadCodes.{BasisLeads};
 ghost use Rattle.packedterms.specs.Formula.{formula, Room, Working};
+ghost use Rattle.packedsteps.specs.Advance.{LeadsIn};
 ghost use Rattle.reducing.specs.Reductions.{reducedBy, seenReduced, ShortHeld};
 
-// The formula of n terms that the arrays hold, brought to its short form under the basis of t: 17 and 18.
-pub fn reduce_held(
+// The formula of n terms that the arrays hold, brought to its short form under the basis of t, by the index of its leading words: 17 and 18. One
+// index serves as many formulas as are reduced under the table.
+pub fn reduce_by(
     t: &Table,
+    index: &[u64; 832],
     budget: u32,
     c: &mut [u32; 560],
     l: &mut [u32; 560],
@@ -36,7 +38,7 @@ pub fn reduce_held(
     o: &mut [u16; 560],
     n: usize,
 ) -> Reduced
-    requires { ⌜ Tabled (now t) × BasisLeads (now t) × Working (now t) (now c) (now l) (now w) (now o) n × (n ≤ 512) ⌝ }
+    requires { ⌜ Tabled (now t) × LeadsIn (now t) (now index) × Working (now t) (now c) (now l) (now w) (now o) n × (n ≤ 512) ⌝ }
     ensures { λ r. ⌜
         seenReduced (now (t .entry)) (now (c .exit)) (now (l .exit)) (now (w .exit)) (now (o .exit)) r
         ≡ reductionOf budget
@@ -45,9 +47,7 @@ pub fn reduce_held(
         ⌝ }
     ensures { λ r. ⌜ ShortHeld (now (t .entry)) (now (c .exit)) (now (l .exit)) (now (w .exit)) (now (o .exit)) r ⌝ }
 {
-    let mut index = [0u64; 832];
-    index_leads(t, &mut index);
-    let r = run(t, budget, &index, c, l, w, o, n);
+    let r = run(t, budget, index, c, l, w, o, n);
     match r {
         Ran::Answer { terms, steps } => Reduced::Short {
             terms: terms,
@@ -64,6 +64,30 @@ pub fn reduce_held(
     }
 }
 
+// The same, where the index is still to be made.
+pub fn reduce_held(
+    t: &Table,
+    budget: u32,
+    c: &mut [u32; 560],
+    l: &mut [u32; 560],
+    w: &mut [u64; 3360],
+    o: &mut [u16; 560],
+    n: usize,
+) -> Reduced
+    requires { ⌜ Tabled (now t) × BasisNonzero (now t) × Working (now t) (now c) (now l) (now w) (now o) n × (n ≤ 512) ⌝ }
+    ensures { λ r. ⌜
+        seenReduced (now (t .entry)) (now (c .exit)) (now (l .exit)) (now (w .exit)) (now (o .exit)) r
+        ≡ reductionOf budget
+        (steps.run 512 (fieldIn (now (t .entry))) (orderIn (now (t .entry))) (basisIn (now (t .entry))) budget 0
+        (formula (now (t .entry)) (now (c .entry)) (now (l .entry)) (now (w .entry)) (now (o .entry)) n))
+        ⌝ }
+    ensures { λ r. ⌜ ShortHeld (now (t .entry)) (now (c .exit)) (now (l .exit)) (now (w .exit)) (now (o .exit)) r ⌝ }
+{
+    let mut index = [0u64; 832];
+    index_leads(t, &mut index);
+    reduce_by(t, &index, budget, c, l, w, o, n)
+}
+
 // A formula's bytes under the basis of t: 16, 17 and 18.
 fn reduce_formula(
     t: &Table,
@@ -74,7 +98,7 @@ fn reduce_formula(
     w: &mut [u64; 3360],
     o: &mut [u16; 560],
 ) -> Reduced
-    requires { ⌜ Tabled (now t) × BasisLeads (now t) × Room (now c) (now l) (now w) (now o) ⌝ }
+    requires { ⌜ Tabled (now t) × BasisNonzero (now t) × Room (now c) (now l) (now w) (now o) ⌝ }
     ensures { λ r. ⌜
         seenReduced (now (t .entry)) (now (c .exit)) (now (l .exit)) (now (w .exit)) (now (o .exit)) r
         ≡ reducedBy (now (t .entry)) budget

@@ -2,6 +2,7 @@
 
 use crate::SumAt;
 use crate::sum_line::line_at;
+use package::SUM_O;
 ghost use mathlib.Core.Path.{_≡_};
 ghost use Prim.Native.Nat.{_+_, _≤_};
 ghost use lib.ListN.{length};
@@ -13,7 +14,7 @@ ghost use Rattle.sumlines.specs.Lines.{sumsAt, aboveCount, Counted};
 fn is_above(s: SumAt, count: usize) -> bool
     ensures { λ r. ⌜ r ≡ aboveCount count (s .kind) (s .item) ⌝ }
 {
-    if s.kind != 3 {
+    if s.kind != SUM_O {
         return false;
     }
     count < s.item

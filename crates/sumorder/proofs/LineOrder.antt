@@ -1,33 +1,32 @@
 -- Sum lines in order: an item's lines are the next ones, and lines that were passed belong to no later item.
-use mathlib.Core.Path.{_≡_, refl, sym, ap, _∙_}
+use mathlib.Core.Path.{_≡_, refl, sym, _∙_}
 use mathlib.Core.Bool.{Bool, true, false, true≢false, false≢true}
 use mathlib.Core.Logic.{_≢_, _⊎_, inl, inr}
 use mathlib.Core.List.{List, [], _∷_}
-use Prim.Native.Nat.{ℕ, zero, suc, _+_, _≤_, _<_}
-use native.Mathlib.Numerals.{add-one}
+use Prim.Native.Nat.{ℕ, suc, _+_, _≤_, _<_}
 use native.Mathlib.Decide.{ℕ-discrete}
 use native.Mathlib.Omega.{arith}
 use lib.Dec.{eqb, ltb, leb}
-use lib.ListN.{length, take, drop, length-take, length-drop}
-use borrow.Author.Tests.{eq-eqb, ne-eqb, eqb-true, eqb-false, lt-ltb, ltb-true, ltb-false, le-leb, leb-true}
+use lib.ListN.{length, take, drop}
+use borrow.Author.Tests.{eq-eqb, ne-eqb, eqb-true, lt-ltb, ltb-true, le-leb, leb-true}
 use Rattle.lists.proofs.Parts.{part-length}
 use Rattle.field.specs.Field.{Operations}
 use Rattle.words.specs.Order.{Order}
 use Rattle.algebra.specs.Poly.{Poly}
 use Rattle.algebra.specs.Ideal.{Family}
 use Rattle.overlaps.specs.Overlaps.{Overlap}
-use Rattle.text.specs.Bytes.{within, allWithin}
+use Rattle.text.specs.Bytes.{within}
 use Rattle.text.proofs.Bytewise.{within-bounds}
 use Rattle.package.specs.declared.Head.{Head}
 use Rattle.package.specs.Names.{sumO}
 use Rattle.package.specs.declared.Limits.{Limits}
-use Rattle.package.proofs.LineBounds.{coef-below}
+use Rattle.package.proofs.LineBounds.{coef-below, word-short}
 use Rattle.package.specs.Bounds.{coefFits, wordFits}
 use Rattle.package.specs.Package.{packageLimits}
 use Rattle.package.specs.Sums.{SumLine, sumItemFits, ofs, sumFits, sumFollows}
 use Rattle.package.specs.Readable.{SumInOrder, SumsInOrder, noSums, sumThen}
 use Rattle.acceptance.specs.Content.{sumOf}
-use Rattle.acceptance.specs.Check.{thenJudge, sumsJudged, overlapsJudged}
+use Rattle.acceptance.specs.Check.{sumsJudged, overlapsJudged}
 use Rattle.sumlines.specs.declared.SumAt.{SumAt}
 use Rattle.sumlines.specs.Lines.{heldLine, NumberedFrom, firstIs, Inside, LineFits}
 use Rattle.sumorder.specs.Reached.{Past, all-left, one-past}
@@ -149,14 +148,6 @@ past-one k all-left e = one-past e all-left
 past-one k (one-past d p) e = one-past d (past-one k p e)
 
 -- A line in bounds can be taken away.
-word-short : (most letters : ℕ) (w : List ℕ) → wordFits most letters w ≡ true → length w ≤ most
-unfolding wordFits
-word-short most letters w = go (ltb most (length w)) refl
-  where
-    go : (t : Bool) → ltb most (length w) ≡ t → _≡_ {A = Bool} (elim t [ true ↦ false | false ↦ allWithin 97 (96 + letters) w ]) true → length w ≤ most
-    go true e h = absurd (false≢true h)
-    go false e h = ltb-false most (length w) e
-
 record Fits (p count coef : ℕ) (left : List ℕ) (of : ℕ) (right : List ℕ) : Type 0 where
   below : coef < p
   some : 1 ≤ of

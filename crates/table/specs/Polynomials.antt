@@ -1,6 +1,8 @@
 -- The polynomials of a table: relations and basis.
+use mathlib.Core.Logic.{_≢_}
 use mathlib.Core.List.{List, [], _∷_}
 use Prim.Native.Nat.{ℕ, zero, suc, _+_, _-_}
+use Rattle.lists.specs.All.{All}
 use Rattle.words.specs.Word.{Word}
 use Rattle.algebra.specs.Poly.{Term, Poly}
 use Rattle.working.specs.Working.{terms}
@@ -30,3 +32,7 @@ relationsIn t = polynomialsIn t 1 (gensIn t)
 
 abbrev pub basisIn : List ℕ → List Poly
 basisIn t = polynomialsIn t (gensIn t + 1) (basisCountIn t)
+
+-- No polynomial of the basis is zero.
+abbrev pub BasisNonzero : List ℕ → Type 0
+BasisNonzero t = All (λ f. f ≢ []) (basisIn t)

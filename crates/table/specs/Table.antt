@@ -6,7 +6,8 @@
 --   144  for each basis polynomial the letters of its longest word (0: not filled as yet)
 --   208  for each item where its terms start: relations from item 1 on, and the basis behind them
 --   352  for each term three numbers: coefficient × 2^32 + size, and the two blocks of its word
--- A size is 256 × weight + number of letters. Contracts cite the names below and in the files beside this one; no other text knows the entries.
+-- A size is 256 × weight + number of letters. Contracts cite the names below and in the files beside this one; only the
+-- crate that fills the table knows the entries besides.
 use mathlib.Core.List.{List}
 use Prim.Native.Nat.{ℕ, _+_, _*_, _/_, _%_}
 use lib.ListN.{getD, take, drop}

@@ -11,8 +11,9 @@ use Rattle.table.specs.Table.{tableSize, primeIn, lettersIn, gensIn, bas
 use Rattle.table.specs.Words.{Held, Suits, Keys}
 use Rattle.table.specs.Polynomials.{relationsIn, basisIn}
 
--- The counts are within document 01's bounds; coefficients are elements; each word has at most 24 letters, none with the code 0, and is held by its
--- blocks; the terms of an item, at most 48, lie behind those of the item before it; and the polynomials are in written form.
+-- The counts are within document 01's bounds; the coefficients are a field's, in which they are elements; the order is that of the numbers, and letters
+-- and codes have each other's keys; leading coefficients have the inverse 1; each word has at most 24 letters, none with the code 0, and is held by
+-- its blocks; the terms of an item, at most 48, lie behind those of the item before it; and the polynomials are in written form.
 pub record Tabled (t : List ℕ) : Type 0 where
   pub size : length t ≡ tableSize
   pub prime : primeIn t ≤ 65536

@@ -6,6 +6,7 @@ use lib.ListN.{length, take}
 use Rattle.words.specs.Word.{Word, Letter}
 use Rattle.words.specs.Order.{Admissible, byNumber, byLetters}
 use Rattle.words.specs.Weighted.{weight}
+use Rattle.algebra.specs.Ideal.{Line}
 use Rattle.packedwords.specs.Codes.{itself}
 use Rattle.packedwords.specs.Packed.{unpacked, Packs}
 use Rattle.table.specs.Table.{orderIn, codeIn, keyWeightIn, letterIn, weightIn}
@@ -13,6 +14,10 @@ use Rattle.table.specs.Table.{orderIn, codeIn, keyWeightIn, letterIn, we
 -- The word of size z that blocks stand for, in letters.
 abbrev pub wordOf : List ℕ → ℕ → List ℕ → Word
 wordOf t z bs = map (letterIn t) (unpacked (z % 256) bs)
+
+-- The line x × left × (polynomial number g) × right, whose words of the sizes a and b are in blocks.
+abbrev pub lineOf : List ℕ → ℕ → ℕ → List ℕ → ℕ → ℕ → List ℕ → Line
+lineOf t x a left g b right = record { coef = x; left = wordOf t a left; of = g; right = wordOf t b right }
 
 -- The blocks hold a word of size z: they are what its codes are packed into, and the size has the weight of these.
 pub record Held (t : List ℕ) (z : ℕ) (bs : List ℕ) : Type 0 where
@@ -23,7 +28,7 @@ pub record Held (t : List ℕ) (z : ℕ) (bs : List ℕ) : Type 0 where
 abbrev pub blockCount : ℕ → ℕ
 blockCount z = (z % 256 + 11) / 12
 
--- The table's order is that of the numbers: weights decide, and where they are equal the blocks, of which as many count as the first word takes.
+-- The table's order is admissible, and it is that of the numbers: weights decide, and where they are equal the blocks, of which as many count as the first word takes.
 pub record Suits (t : List ℕ) : Type 0 where
   pub admissible : Admissible (orderIn t)
   pub compares : (y z : ℕ) (u v : List ℕ) → length u ≡ 6 → length v ≡ 6 → Held t y u → Held t z v

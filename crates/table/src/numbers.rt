@@ -6,7 +6,7 @@ ghost use mathlib.Core.List.{List};
 ghost use Prim.Native.Nat.{ℕ, _+_, _/_, _≤_, _<_};
 ghost use lib.ListN.{take, drop};
 ghost use Rattle.packedwords.specs.Packed.{letterOf};
-ghost use Rattle.table.specs.Table.{tableSize, primeIn, lettersIn, gensIn, basisCountIn, keyIn, letterIn, weightIn, firstIn, coefIn, sizeIn, blocksIn};
+ghost use Rattle.table.specs.Table.{tableSize, primeIn, lettersIn, gensIn, basisCountIn, keyIn, letterIn, firstIn, coefIn, sizeIn, blocksIn};
 ghost use Rattle.table.specs.Tabled.{Tabled};
 
 // The number that means the field.
@@ -52,14 +52,6 @@ pub fn letter_in(t: &Table, c: usize) -> u8
     ensures { λ r. ⌜ r ≡ letterIn (now (t .entry)) c ⌝ }
 {
     (t[48 + c] % 256) as u8
-}
-
-// The weight of a code.
-pub fn weight_in(t: &Table, c: usize) -> usize
-    requires { ⌜ c < 32 ⌝ }
-    ensures { λ r. ⌜ r ≡ weightIn (now (t .entry)) c ⌝ }
-{
-    (t[48 + c] / 256) as usize
 }
 
 // The number of item j's first term.

@@ -1,14 +1,11 @@
--- The words of sum lines, in the bytes and packed.
+-- The words of sum lines, in the bytes.
 use mathlib.Core.List.{List}
 use Prim.Native.Nat.{ℕ, _+_, _≤_}
 use lib.ListN.{length}
 use Rattle.lists.specs.All.{All}
 use Rattle.text.specs.Pieces.{part}
 use Rattle.words.specs.Word.{Letter}
-use Rattle.algebra.specs.Ideal.{Line}
-use Rattle.table.specs.Words.{wordOf}
 use Rattle.sumlines.specs.declared.SumAt.{SumAt}
-use Rattle.tablesums.specs.declared.Sizes.{Sizes}
 
 -- The two words of a sum line lie in the bytes, and have at most 24 letters each, from `a` to `z`.
 pub record LineWords (bytes : List ℕ) (s : SumAt) : Type 0 where
@@ -18,7 +15,3 @@ pub record LineWords (bytes : List ℕ) (s : SumAt) : Type 0 where
   pub right-in : s .right + s .rightlen ≤ length bytes
   pub left-letters : All (Letter 26) (part bytes (s .left) (s .leftlen))
   pub right-letters : All (Letter 26) (part bytes (s .right) (s .rightlen))
-
--- The line x × left × (polynomial number `of`) × right, whose words are in blocks.
-abbrev pub lineHeld : List ℕ → ℕ → Sizes → List ℕ → ℕ → List ℕ → Line
-lineHeld t x z left of right = record { coef = x; left = wordOf t (z .left) left; of = of; right = wordOf t (z .right) right }

@@ -16,10 +16,9 @@ ghost use Rattle.algebra.specs.Ideal.{family};
 ghost use Rattle.table.specs.Polynomials.{basisIn};
 ghost use Rattle.table.specs.Table.{orderIn};
 ghost use Rattle.table.specs.Tabled.{Tabled};
-ghost use Rattle.table.specs.Words.{wordOf, blockCount, Built};
+ghost use Rattle.table.specs.Words.{wordOf, lineOf, blockCount, Built};
 ghost use Rattle.acceptance.specs.Check.{isUnder};
 ghost use Rattle.tablesums.specs.Leading.{Leads};
-ghost use Rattle.tablesums.specs.Lines.{lineHeld};
 ghost use Rattle.tablesums.specs.ShortWords.{Short};
 
 // How the word of size z in u stands to that of size e in v: the weights decide, and then as many blocks as the first word takes.
@@ -57,7 +56,7 @@ pub fn is_under(
     ensures { λ r. ⌜
         ((x : ℕ)
         → r ≡ isUnder (orderIn (now (t .entry))) (family (basisIn (now (t .entry)))) (wordOf (now (t .entry)) e (now (lap .entry)))
-        (lineHeld (now (t .entry)) x sizes (now (left .entry)) of (now (right .entry))))
+        (lineOf (now (t .entry)) x (sizes .left) (now (left .entry)) of (sizes .right) (now (right .entry))))
         ⌝ }
     ensures { λ _. ⌜ length (now (buf .exit)) ≡ 9 ⌝ }
 {

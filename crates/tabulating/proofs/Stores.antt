@@ -7,7 +7,7 @@ use native.Mathlib.Decide.{decLt}
 use native.Mathlib.Omega.{arith}
 use lib.ListN.{length, getD, set, length-set}
 use lib.Seq.{getD-set-same, getD-set-other}
-use Rattle.packing.proofs.Entries.{below-next}
+use Rattle.lists.proofs.Entries.{below-next}
 use Rattle.tabulating.specs.Filled.{Filled}
 
 pub filled-none : (a : ℕ) (f : ℕ → ℕ) (t : List ℕ) → Filled a 0 f t t

@@ -8,13 +8,14 @@ use native.Mathlib.Decide.{decLt}
 use native.Mathlib.Omega.{arith}
 use lib.ListN.{length, getD}
 use Rattle.lists.proofs.Parts.{part-length}
+use Rattle.lists.proofs.Entries.{part-at}
 use Rattle.words.specs.Laid.{laidWord}
 use Rattle.algebra.specs.Poly.{Term}
 use Rattle.package.specs.declared.Head.{Head}
 use Rattle.working.specs.Working.{terms}
 use Rattle.working.specs.Polynomial.{polyTerm}
 use Rattle.working.specs.Family.{between, polyBetween, familyAt, Runs}
-use Rattle.working.proofs.Between.{between-length, between-at}
+use Rattle.working.proofs.Between.{between-length}
 use Rattle.table.specs.Table.{primeIn, lettersIn, gensIn, basisCountIn, termsIn, itemsIn, keyIn, firstIn}
 use Rattle.table.specs.Polynomials.{termIn, polynomialsIn, relationsIn, basisIn}
 use Rattle.table.specs.Tabled.{Tabled}
@@ -139,7 +140,7 @@ module _ {h : Head} {coefs starts lens bytes firsts : List ℕ} {m : ℕ} {t : L
       terms-shift (termIn t) part a 0 (b - a)
       (λ j q.
       let e : 0 + j ≡ j = omega arith in
-      term-of (a + j) (omega arith) ∙ rw (e, between-at coefs a b j q, between-at starts a b j q, between-at lens a b j q))
+      term-of (a + j) (omega arith) ∙ rw (e, part-at coefs a (b - a) j q, part-at starts a (b - a) j q, part-at lens a (b - a) j q))
       ∙ ap (terms part 0) (sym size)
 
   polynomials-of : (base n j k : ℕ) → Runs firsts base n m → base ≤ j → j + k ≡ base + n → j + k < h .gens + h .basis + 2

@@ -11,7 +11,7 @@ use Rattle.lists.proofs.Parts.{part-length}
 use Rattle.words.specs.Word.{Word, Letter}
 use Rattle.packedwords.specs.Packed.{Nonzero, window, packed, unpacked}
 use Rattle.packedwords.proofs.Packing.{packed-length, packed-at}
-use Rattle.packing.proofs.Entries.{part-at}
+use Rattle.lists.proofs.Entries.{part-at}
 use Rattle.table.specs.Table.{keyIn, coefIn, sizeIn, blocksIn}
 use Rattle.table.specs.Words.{Held, Keys}
 use Rattle.table.specs.Polynomials.{wordIn, termIn}

@@ -13,7 +13,7 @@ use Rattle.words.specs.Word.{Word}
 use Rattle.packedwords.specs.Packed.{Codes, value, window, front}
 use Rattle.packedwords.proofs.Values.{after, value-add, value-same, value-zero, value-lt}
 use Rattle.packedwords.proofs.Windows.{window-drop, window-end, window-take, window-whole}
-use Rattle.packing.proofs.Entries.{part-at}
+use Rattle.lists.proofs.Entries.{part-at}
 
 -- The letters of text from `at` on, each as f has it.
 abbrev pub spelt : (ℕ → ℕ) → List ℕ → ℕ → ℕ → ℕ

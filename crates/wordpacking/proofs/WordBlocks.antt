@@ -9,7 +9,7 @@ use Rattle.words.specs.Word.{Word}
 use Rattle.packedwords.specs.Packed.{window, packed}
 use Rattle.packedwords.proofs.Packing.{packed-unique}
 use Rattle.packedwords.proofs.Windows.{window-end}
-use Rattle.packing.proofs.Entries.{below-next}
+use Rattle.lists.proofs.Entries.{zeros-at, below-next}
 use Rattle.packing.proofs.Stores.{sets-whole}
 
 -- The first j of six blocks are those of w.
@@ -41,14 +41,8 @@ short-packed w E x y e h p q =
     let bs : List ℕ = x ∷ y ∷ 0 ∷ 0 ∷ 0 ∷ 0 ∷ [] in
     sets-whole E bs e ∙ packed-unique bs w entry
   where
-    zero-block : (i : ℕ) → 24 ≤ i → 0 ≡ window w i
-    zero-block i l = sym (window-end w i (omega arith))
-
+    -- behind the two blocks there are zeros, as behind the end of the word
     entry : (i : ℕ) → i < 6 → getD (x ∷ y ∷ 0 ∷ 0 ∷ 0 ∷ 0 ∷ []) i 0 ≡ window w (12 * i)
     entry zero l = p
     entry (suc zero) l = q
-    entry (suc (suc zero)) l = zero-block 24 (omega arith)
-    entry (suc (suc (suc zero))) l = zero-block 36 (omega arith)
-    entry (suc (suc (suc (suc zero)))) l = zero-block 48 (omega arith)
-    entry (suc (suc (suc (suc (suc zero))))) l = zero-block 60 (omega arith)
-    entry (suc (suc (suc (suc (suc (suc i)))))) l = absurd (omega arith)
+    entry (suc (suc i)) l = zeros-at 4 i ∙ sym (window-end w (12 * suc (suc i)) (omega arith))

@@ -1,11 +1,12 @@
 // A word of a text, packed into six blocks.
 
+use lists::numbers::lesser;
 use packing::part::front;
 use table::Table;
 use table::numbers::key_in;
 ghost use mathlib.Core.Path.{_≡_};
 ghost use mathlib.Core.List.{map};
-ghost use Prim.Native.Nat.{_+_, _*_, _%_, _≤_, _<_, min};
+ghost use Prim.Native.Nat.{_+_, _*_, _%_, _≤_, _<_};
 ghost use lib.ListN.{length, take, drop};
 ghost use Rattle.lists.specs.All.{All};
 ghost use Rattle.words.specs.Word.{Letter};
@@ -13,16 +14,6 @@ ghost use Rattle.words.specs.Weighted.{weight};
 ghost use Rattle.packedwords.specs.Packed.{window, packed, unpacked};
 ghost use Rattle.table.specs.Table.{codeIn, keyWeightIn};
 ghost use Rattle.table.specs.Words.{Keys, Sixfold, wordOf};
-
-// The lesser of two numbers.
-fn least(a: usize, b: usize) -> usize
-    ensures { λ r. ⌜ r ≡ min a b ⌝ }
-{
-    if a < b {
-        return a;
-    }
-    b
-}
 
 // The r letters of text from `at` on as one block, with zeros behind them: letter by letter.
 fn pack_letters(t: &Table, text: &[u8], at: usize, r: usize) -> u64
@@ -82,8 +73,8 @@ fn pack_long(t: &Table, text: &[u8], from: usize, n: usize, dst: &mut [u64; 6]) 
 {
     let mut j = 0;
     while j < 6 {
-        let i = least(12 * j, n);
-        let r = least(n - i, 12);
+        let i = lesser(12 * j, n);
+        let r = lesser(n - i, 12);
         dst[j] = pack_block(t, text, from + i, r);
         j += 1;
     }
@@ -97,7 +88,7 @@ fn pack_short(t: &Table, text: &[u8], from: usize, n: usize, dst: &mut [u64; 6])
     ensures { λ r. ⌜ r ≡ 256 * weight (keyWeightIn (now (t .entry))) (take n (drop from (now (text .entry)))) + n ⌝ }
     ensures { λ _. ⌜ now (dst .exit) ≡ packed 6 (map (codeIn (now (t .entry))) (take n (drop from (now (text .entry))))) ⌝ }
 {
-    let r = least(n, 12);
+    let r = lesser(n, 12);
     dst[0] = pack_block(t, text, from, r);
     dst[1] = pack_block(t, text, from + r, n - r);
     dst[2] = 0;

@@ -5,9 +5,9 @@ use Prim.Native.Nat.{_+_, _-_, _≤_}
 use native.Mathlib.Omega.{arith}
 use lib.ListN.{drop}
 use Rattle.words.specs.Laid.{laidWord, laidWords}
-use Rattle.words.proofs.LaidWords.{laid-length, laid-at}
+use Rattle.words.proofs.LaidWords.{laid-length, laid-at, word-inside}
 use Rattle.acceptance.specs.Check.{holdsOther}
-use Rattle.basis.proofs.HeldWords.{word-lies, held-here, held-later, held-none}
+use Rattle.basis.proofs.HeldWords.{held-here, held-later, held-none}
 use Rattle.basis.proofs.holding.holds_other.Statement.{statement}
 use Rattle.basis.proofs.holding.holds_other.Tie as tie
 
@@ -24,7 +24,7 @@ loop-holds : tie.Need-loop-holds Inv-loop μ-loop
 loop-holds c = (search needs, refl)
 
 is-held-requires : tie.Need-is-held-requires Inv-loop μ-loop
-is-held-requires c κs = let s = c .before .before .before .before .before in (word-lies (s .pre .0) _ (s .pre .1), word-lies (s .pre .0) _ (c .loop-test .taken))
+is-held-requires c κs = let s = c .before .before .before .before .before in (word-inside _ _ _ _ (s .pre .0) _ (s .pre .1), word-inside _ _ _ _ (s .pre .0) _ (c .loop-test .taken))
 
 returns : tie.Need-returns Inv-loop μ-loop
 returns c =

@@ -1,8 +1,8 @@
 -- `spot_in_block` is the search before place `end`. The invariant: the leftmost place from place i on is the leftmost from the block's first on, and x and y
 -- have the letters from i on, moved up.
-use mathlib.Core.Path.{_≡_, refl, sym, _∙_, ap, ap₂}
+use mathlib.Core.Path.{_≡_, refl, sym, _∙_}
 use mathlib.Core.List.{List}
-use Prim.Native.Nat.{ℕ, _+_, _-_, _*_, _/_, _%_, _^_, _≤_, _<_}
+use Prim.Native.Nat.{ℕ, _-_, _*_, _/_, _≤_}
 use native.Mathlib.Omega.{arith}
 use lib.ListN.{drop}
 use Rattle.words.specs.Word.{Word}
@@ -41,14 +41,17 @@ high-requires c κs =
     let z = c .before .before in
     z .pre .0 .1 .blocks (z .args .j)
 
-block-behind-requires : tie.Need-block-behind-requires Inv-loop μ-loop
-block-behind-requires c κs =
+add-block-at : tie.Need-add-block-at Inv-loop μ-loop
+add-block-at c = search needs
+
+block-at-requires : tie.Need-block-at-requires Inv-loop μ-loop
+block-at-requires c κs =
     let z = c .before .before .before in
-    (omega arith, z .pre .0 .1 .blocks)
+    z .pre .0 .1 .blocks
 
 high-requires-2 : tie.Need-high-requires-2 Inv-loop μ-loop
 high-requires-2 c κs =
-    c .block-behind .ensures .1
+    c .block-at .ensures .1
 
 mul-i : tie.Need-mul-i Inv-loop μ-loop
 mul-i c = search needs
@@ -56,7 +59,7 @@ mul-i c = search needs
 loop-holds : tie.Need-loop-holds Inv-loop μ-loop
 loop-holds c =
     let z = c .before .before .before .before .before in
-    let b = c .before .block-behind .ensures in
+    let b = c .before .block-at .ensures in
     let x = c .before .before .high .ensures in
     let y = c .high2 .ensures in (
       omega arith,
@@ -140,7 +143,8 @@ spot-in-block-spec =
     mul-high
     shared-slice-read-high
     high-requires
-    block-behind-requires
+    add-block-at
+    block-at-requires
     high-requires-2
     mul-i
     loop-holds

@@ -9,7 +9,7 @@ use Rattle.packedwords.specs.Packed.{window, unpacked}
 use Rattle.packedwords.proofs.Packing.{unpacked-length}
 use Rattle.packedwords.proofs.Blocks.{packs-blocks}
 use Rattle.packedwords.proofs.Standing.{letters-block, stands-differs, stands-agrees}
-use Rattle.packing.proofs.Entries.{below-next}
+use Rattle.lists.proofs.Entries.{below-next}
 use borrow.Author.Needs.{needs}
 use Rattle.packing.proofs.place.stands_at.Statement.{statement}
 use Rattle.packing.proofs.place.stands_at.Tie as tie

@@ -6,9 +6,8 @@ use Rattle.words.specs.Word.{Word, around}
 use Rattle.algebra.specs.Ideal.{Line}
 use Rattle.table.specs.Polynomials.{wordIn}
 use Rattle.table.specs.Table.{orderIn, gensIn, firstIn}
-use Rattle.table.specs.Words.{wordOf}
+use Rattle.table.specs.Words.{wordOf, lineOf}
 use Rattle.tablesums.specs.Leading.{leadIn}
-use Rattle.tablesums.specs.Lines.{lineHeld}
 use Rattle.tablesums.proofs.Comparisons.{built-stand, under-below, under-equal, under-above}
 use Rattle.table.proofs.LeadingTerms.{LeadTerm, lead-term}
 use borrow.Author.Needs.{needs}
@@ -29,7 +28,7 @@ first-is x =
 
 -- the line, with any coefficient
 abbrev line : tie.Start → ℕ → Line
-line s x = lineHeld (s .args .t .now) x (s .args .sizes) (s .args .left .now) (s .args .of) (s .args .right .now)
+line s x = lineOf (s .args .t .now) x (s .args .sizes .left) (s .args .left .now) (s .args .of) (s .args .sizes .right) (s .args .right .now)
 
 -- the word that is made, and how it stands to the other
 abbrev word : tie.After-build → Word

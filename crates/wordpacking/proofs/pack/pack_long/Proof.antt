@@ -21,17 +21,17 @@ abbrev μ-loop : tie.MeasureT-loop
 loop-holds : tie.Need-loop-holds Inv-loop μ-loop
 loop-holds c = let s = c .before in (omega arith, fronted-none _ (s .args .dst .now) (s .pre .1 .1))
 
-mul-least : tie.Need-mul-least Inv-loop μ-loop
-mul-least c = search needs
+mul-lesser : tie.Need-mul-lesser Inv-loop μ-loop
+mul-lesser c = search needs
 
-least-requires : tie.Need-least-requires Inv-loop μ-loop
-least-requires c κs = search needs
+lesser-requires : tie.Need-lesser-requires Inv-loop μ-loop
+lesser-requires c κs = search needs
 
-sub-least : tie.Need-sub-least Inv-loop μ-loop
-sub-least c = search needs
+sub-lesser : tie.Need-sub-lesser Inv-loop μ-loop
+sub-lesser c = search needs
 
-least-requires-2 : tie.Need-least-requires-2 Inv-loop μ-loop
-least-requires-2 c κs = search needs
+lesser-requires-2 : tie.Need-lesser-requires-2 Inv-loop μ-loop
+lesser-requires-2 c κs = search needs
 
 add-pack-block : tie.Need-add-pack-block Inv-loop μ-loop
 add-pack-block c = search needs
@@ -60,7 +60,7 @@ loop-again c =
     let f = codeIn (a .t .now) in
     let j = l .loop .j in
     let block = c .pack-block .ensures
-    ∙ block-of-text f (a .text .now) (a .from) (a .n) (12 * j) _ _ (s .pre .0 .1) (k .before .least .ensures) (k .least2 .ensures) in
+    ∙ block-of-text f (a .text .now) (a .from) (a .n) (12 * j) _ _ (s .pre .0 .1) (k .before .lesser .ensures) (k .lesser2 .ensures) in
     (search needs, fronted-more _ j _ _ (l .loop .inv .1) (k .before .before .loop-test .taken) block)
 
 even-size-requires : tie.Need-even-size-requires Inv-loop μ-loop
@@ -83,10 +83,10 @@ pack-long-spec =
     Inv-loop
     μ-loop
     loop-holds
-    mul-least
-    least-requires
-    sub-least
-    least-requires-2
+    mul-lesser
+    lesser-requires
+    sub-lesser
+    lesser-requires-2
     add-pack-block
     pack-block-requires
     mul-dst

@@ -15,8 +15,8 @@ use borrow.Author.Needs.{needs}
 use Rattle.wordpacking.proofs.pack.pack_short.Statement.{statement}
 use Rattle.wordpacking.proofs.pack.pack_short.Tie as tie
 
-least-requires : tie.Need-least-requires
-least-requires c κs = search needs
+lesser-requires : tie.Need-lesser-requires
+lesser-requires c κs = search needs
 
 pack-block-requires : tie.Need-pack-block-requires
 pack-block-requires c κs = search needs
@@ -60,8 +60,8 @@ returns c =
     let f = codeIn (a .t .now) in
     let x = a .text .now in
     let w = take (a .n) (drop (a .from) x) in
-    let r = first .before .least .result in
-    let m = first .before .least .ensures in
+    let r = first .before .lesser .result in
+    let m = first .before .lesser .ensures in
     let size = length-map w f ∙ part-length (a .from) (a .n) x (s .pre .0 .1) in
     let u = first .pack-block .ensures ∙ ap (λ (k : ℕ). window (map f (take r (drop k x))) 0) (sym (add-zero (a .from)))
     ∙ block-of-text f x (a .from) (a .n) 0 0 r (s .pre .0 .1) (omega arith) (omega arith) in
@@ -75,7 +75,7 @@ pub pack-short-spec : {M : Type 1} → statement M
 pack-short-spec =
     tie.close
     (tie.spec
-    least-requires
+    lesser-requires
     pack-block-requires
     element-write-dst
     add-pack-block
