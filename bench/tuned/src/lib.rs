@@ -1,9 +1,10 @@
 //! The services on packages in safe Rust, made for speed.
 //!
-//! The library's methods, on letters where the library has packed words: terms stay where they lie in the package's bytes
-//! (the library packs them into a table), the working formula has 560 places of 72 letters and a list that says which
-//! place each term has, a word's place is found by binary search, and the leftmost leading word by an index of masks. What is tuned: texts are read in one pass, letters are
-//! copied and compared in blocks, and no word is built or looked for twice.
+//! The library's methods, on letters where the library has packed words: terms stay where they lie in the package's
+//! bytes (the library packs them into a table), the working formula has 560 places of 72 letters and a list that says
+//! which place each term has, a word's place is found by binary search, and the leftmost leading word by an index of
+//! masks. What is tuned: texts are read in one pass, letters are copied and compared in blocks, and no word is built or
+//! looked for twice.
 
 #![forbid(unsafe_code)]
 

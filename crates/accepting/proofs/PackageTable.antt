@@ -1,10 +1,8 @@
 -- A package that was read, and its table: what 8 and 9 refuse is refused, what the check asks holds of the table, and what it answers is the
 -- package's acceptance.
 use mathlib.Core.Path.{_≡_, refl, sym, _∙_, ap, ap₂, subst}
-use mathlib.Core.Logic.{_≢_}
-use mathlib.Core.List.{List, []}
+use mathlib.Core.List.{List}
 use Prim.Native.Nat.{ℕ, _+_}
-use Rattle.lists.specs.All.{All}
 use Rattle.words.specs.Order.{wordOrder}
 use Rattle.words.specs.Laid.{laidWords}
 use Rattle.field.specs.Field.{fieldOf}
@@ -19,13 +17,12 @@ use Rattle.package.proofs.PackageTexts.{reads-written}
 use Rattle.acceptance.specs.Content.{relations, basis}
 use Rattle.acceptance.specs.Check.{Verdict, refusal, fine, thenJudge, basisJudged, sumsVerdict, checked}
 use Rattle.acceptance.specs.Acceptance.{judgedBy, acceptance}
-use Rattle.acceptance.proofs.BasisFacts.{fine-nonzero}
 use Rattle.basis.specs.Heads.{HeadsOf}
 use Rattle.sumlines.specs.Lines.{sumsAt}
 use Rattle.sumorder.specs.Reached.{SumsStart}
 use Rattle.sumorder.proofs.Row.{then-refused, then-fine}
 use Rattle.table.specs.Table.{primeIn, lettersIn, gensIn, basisCountIn, fieldIn, orderIn}
-use Rattle.table.specs.Polynomials.{relationsIn, basisIn, BasisNonzero}
+use Rattle.table.specs.Polynomials.{relationsIn, basisIn}
 use Rattle.table.specs.Tabled.{Tabled}
 use Rattle.tablesums.specs.Heading.{headIn}
 use Rattle.tablesums.specs.Leading.{HeadsIn}
@@ -90,9 +87,6 @@ module _ {bytes cs os ls fs : List ℕ} {h : Head} {m at n : ℕ} (r : PackageRe
     -- What the check asks.
     pub begins-in : SumsStart (headIn t) bytes at n
     begins-in = subst (λ (k : Head). SumsStart k bytes at n) (sym head-is) (r .begins)
-
-    pub nonzero-in : BasisNonzero t
-    nonzero-in = subst (All (λ f. f ≢ [])) (sym ps) (fine-nonzero polys sound)
 
     pub heads-in : (heads headlens : List ℕ) → HeadsOf cs os ls bytes fs (h .gens + 1) (h .basis) heads headlens → HeadsIn t heads headlens bytes
     heads-in heads headlens H = record {

@@ -2,7 +2,7 @@
 use mathlib.Core.Path.{_≡_, refl, sym, ap, _∙_}
 use mathlib.Core.Logic.{_≢_}
 use mathlib.Core.List.{List, [], _∷_, _++_, map}
-use Prim.Native.Nat.{ℕ, zero, suc, _≤_, _<_}
+use Prim.Native.Nat.{ℕ, suc, _≤_, _<_}
 use native.Mathlib.Decide.{ℕ-discrete}
 use native.Mathlib.Omega.{arith}
 use lib.ListN.{length, take, drop, length-append, length-take, length-drop}
@@ -21,6 +21,7 @@ use Rattle.algebra.proofs.Insertion.{written-coeff, written-written}
 use Rattle.algebra.proofs.WrittenForm.{written-unique}
 use Rattle.working.specs.Working.{terms}
 use Rattle.working.specs.Polynomial.{polyTerm, polyAt}
+use Rattle.working.proofs.Terms.{terms-shift}
 use Rattle.closing.specs.declared.Term.{Term}
 use Rattle.closing.specs.Closing.{kept, closed}
 use Rattle.closing.specs.Denoted.{denotedTerm, denoted, InOrder, none, away, left, Falling, next}
@@ -96,18 +97,16 @@ module _ (n : ℕ) (ts : List Term) where
 
 -- The polynomial is the one of the parallel number slices that hold the same coefficients, starts and lengths.
 module _ (bytes : List ℕ) where
-  terms-shift : (F : ℕ → P.Term) (i k : ℕ) → terms F (suc i) k ≡ terms (λ j. F (suc j)) i k
-  unfolding terms
-  terms-shift F i zero = refl
-  terms-shift F i (suc k) = ap (λ (f : Poly). F (suc i) ∷ f) (terms-shift F (suc i) k)
-
   pub denoted-parallel : (ts : List Term) → denoted bytes ts ≡ polyAt (map (λ t. t .coef) ts) (map (λ t. t .start) ts) (map (λ t. t .len) ts) bytes
   unfolding denoted terms
   denoted-parallel [] = refl
   denoted-parallel (t ∷ ts) =
       ap (λ (f : Poly). denotedTerm bytes t ∷ f)
       (denoted-parallel ts
-      ∙ sym (terms-shift (polyTerm (map (λ t. t .coef) (t ∷ ts)) (map (λ t. t .start) (t ∷ ts)) (map (λ t. t .len) (t ∷ ts)) bytes) 0 (length (map (λ (t : Term). t .coef) ts))))
+      ∙ sym (one-later (polyTerm (map (λ t. t .coef) (t ∷ ts)) (map (λ t. t .start) (t ∷ ts)) (map (λ t. t .len) (t ∷ ts)) bytes)))
+    where
+      one-later : (F : ℕ → P.Term) → terms F 1 (length (map (λ (t : Term). t .coef) ts)) ≡ terms (λ j. F (suc j)) 0 (length (map (λ (t : Term). t .coef) ts))
+      one-later F = terms-shift F (λ j. F (suc j)) 1 0 (length (map (λ (t : Term). t .coef) ts)) (λ j l. ap F (omega arith))
 
 module _ {K : Operations} (F : Field K) (bytes : List ℕ) where
   where-zero : (u w : Word) → whereSame u w 0 ≡ 0

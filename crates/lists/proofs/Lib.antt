@@ -1,4 +1,5 @@
--- What other crates cite: laws of `All`, of parts of lists, of their entries, of functions at each element, of runs of stores, of `same`, and of a yes or no.
+-- What other crates cite: laws of `All`, of parts of lists and their entries, of functions at each element, of runs of stores, of `same`, and of
+-- a yes or no.
 pub mod Every
 pub mod Parts
 pub mod Entries

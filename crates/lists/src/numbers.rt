@@ -1,4 +1,4 @@
-// Two numbers compared.
+// The lesser of two numbers, and a number of 32 bits as a wider one.
 
 ghost use mathlib.Core.Path.{_≡_};
 ghost use Prim.Native.Nat.{min};
@@ -11,4 +11,11 @@ pub fn lesser(a: usize, b: usize) -> usize
         return a;
     }
     b
+}
+
+// A number of 32 bits as a wider one.
+pub fn wide(x: u32) -> usize
+    ensures { λ r. ⌜ r ≡ x ⌝ }
+{
+    x as usize
 }

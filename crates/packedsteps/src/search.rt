@@ -3,7 +3,7 @@
 use crate::Next;
 use leads::Spotted;
 use leads::spotting::leftmost_lead_in;
-use packedterms::search::wide;
+use lists::numbers::wide;
 ghost use mathlib.Core.Path.{_≡_};
 ghost use mathlib.Core.List.{List};
 ghost use Prim.Native.Nat.{_%_, _<_};

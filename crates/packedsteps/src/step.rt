@@ -4,7 +4,7 @@ use crate::Stepped;
 use crate::cutting::cut;
 use crate::cutting::take_place;
 use itemadding::leading_term::take_onto_item;
-use packedterms::search::wide;
+use lists::numbers::wide;
 use table::Table;
 ghost use mathlib.Core.Path.{_≡_};
 ghost use Prim.Native.Nat.{_+_, _≤_, _<_};

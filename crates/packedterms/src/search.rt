@@ -1,5 +1,6 @@
 // Where a word belongs among the words of the formula.
 
+use lists::numbers::wide;
 use packing::order::compare;
 use words::Comparison;
 use working::Position;
@@ -7,13 +8,6 @@ ghost use mathlib.Core.Path.{_≡_};
 ghost use Prim.Native.Nat.{_≤_, _<_};
 ghost use lib.ListN.{length};
 ghost use Rattle.packedterms.specs.Finding.{byNumbers, standing, Sought, BelowFirst, Belonging};
-
-// A number of 32 bits as a wider one.
-pub fn wide(x: u32) -> usize
-    ensures { λ r. ⌜ r ≡ x ⌝ }
-{
-    x as usize
-}
 
 // How a word of weight x, whose letters are in the first k blocks of v, stands to the word at place s: the weights decide, and then the blocks.
 pub fn compare_at(

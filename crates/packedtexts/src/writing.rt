@@ -1,6 +1,6 @@
 // The bytes of the packed working formula: how many they are, and written to a slice.
 
-use packedterms::search::wide;
+use lists::numbers::wide;
 use packing::block::up;
 use table::Table;
 use table::numbers::letter_in;

@@ -1,9 +1,7 @@
 -- What a formula is brought to under a package, case by case: the package is refused, the formula does not read, or it is run.
-use mathlib.Core.Path.{_≡_, refl, sym, _∙_, ap, subst}
-use mathlib.Core.Logic.{_≢_}
-use mathlib.Core.List.{List, []}
+use mathlib.Core.Path.{_≡_, refl, sym, _∙_, ap}
+use mathlib.Core.List.{List}
 use Prim.Native.Nat.{ℕ}
-use Rattle.lists.specs.All.{All}
 use Rattle.field.specs.Field.{fieldOf}
 use Rattle.words.specs.Order.{wordOrder}
 use Rattle.algebra.specs.Poly.{Poly}
@@ -14,9 +12,8 @@ use Rattle.package.specs.Package.{refused}
 use Rattle.acceptance.specs.Content.{basis}
 use Rattle.acceptance.specs.Acceptance.{acceptance}
 use Rattle.acceptance.specs.Reduction.{formulaLimits, refusedBy, reductionOf, formulaReduced, packageReduced, reduction}
-use Rattle.acceptance.proofs.BasisFacts.{fine-nonzero}
 use Rattle.table.specs.Table.{primeIn, lettersIn, fieldIn, orderIn}
-use Rattle.table.specs.Polynomials.{basisIn, BasisNonzero}
+use Rattle.table.specs.Polynomials.{basisIn}
 use Rattle.tablesums.specs.Heading.{headIn}
 use Rattle.accepting.specs.Accepted.{TableAccepted}
 use Rattle.reducing.specs.Reductions.{reducedBy}
@@ -38,10 +35,6 @@ unfolding reducedBy
 run-reduced t budget f g u e q = ap (λ (h : Poly). reductionOf budget (run 512 (fieldIn t) (orderIn t) (basisIn t) budget 0 h)) q ∙ sym (ap (reducedBy t budget) e)
 
 module _ {bytes t : List ℕ} (a : TableAccepted bytes t) where
-  -- No polynomial of an accepted basis is zero.
-  pub accepted-nonzero : BasisNonzero t
-  accepted-nonzero = subst (All (λ f. f ≢ [])) (sym (a .basis)) (fine-nonzero (basis (a .whole)) (a .sound))
-
   -- Under an accepted package the formula decides.
   pub table-reduced : (text : List ℕ) (budget : ℕ)
       → reducedBy t budget (readFormula (primeIn t) (lettersIn t) formulaLimits text) ≡ reduction bytes text budget

@@ -28,7 +28,7 @@ ghost use Rattle.reducing.specs.Reductions.{reducedBy, seenReduced, Shor
 
 // The formula of n terms that the arrays hold, brought to its short form under the basis of t, by the index of its leading words: 17 and 18. One
 // index serves as many formulas as are reduced under the table.
-pub fn reduce_by(
+pub fn reduce_held(
     t: &Table,
     index: &[u64; 832],
     budget: u32,
@@ -64,30 +64,6 @@ pub fn reduce_by(
     }
 }
 
-// The same, where the index is still to be made.
-pub fn reduce_held(
-    t: &Table,
-    budget: u32,
-    c: &mut [u32; 560],
-    l: &mut [u32; 560],
-    w: &mut [u64; 3360],
-    o: &mut [u16; 560],
-    n: usize,
-) -> Reduced
-    requires { ⌜ Tabled (now t) × BasisNonzero (now t) × Working (now t) (now c) (now l) (now w) (now o) n × (n ≤ 512) ⌝ }
-    ensures { λ r. ⌜
-        seenReduced (now (t .entry)) (now (c .exit)) (now (l .exit)) (now (w .exit)) (now (o .exit)) r
-        ≡ reductionOf budget
-        (steps.run 512 (fieldIn (now (t .entry))) (orderIn (now (t .entry))) (basisIn (now (t .entry))) budget 0
-        (formula (now (t .entry)) (now (c .entry)) (now (l .entry)) (now (w .entry)) (now (o .entry)) n))
-        ⌝ }
-    ensures { λ r. ⌜ ShortHeld (now (t .entry)) (now (c .exit)) (now (l .exit)) (now (w .exit)) (now (o .exit)) r ⌝ }
-{
-    let mut index = [0u64; 832];
-    index_leads(t, &mut index);
-    reduce_by(t, &index, budget, c, l, w, o, n)
-}
-
 // A formula's bytes under the basis of t: 16, 17 and 18.
 fn reduce_formula(
     t: &Table,
@@ -120,7 +96,9 @@ fn reduce_formula(
         },
         FormulaRead::Formula(n) => {
             let m = load(t, &fc[0..n], &fs[0..n], &fl[0..n], text, c, l, w, o);
-            reduce_held(t, budget, c, l, w, o, m)
+            let mut index = [0u64; 832];
+            index_leads(t, &mut index);
+            reduce_held(t, &index, budget, c, l, w, o, m)
         }
     }
 }

@@ -2,7 +2,7 @@
 use mathlib.Core.Path.{_≡_, refl, sym, _∙_, ap, ap₂}
 use mathlib.Core.List.{List, _∷_}
 use Prim.Native.Nat.{ℕ, zero, suc, _+_, _-_, _*_, _≤_, _<_}
-use native.Mathlib.Nat.{add-zero, zero-add}
+use native.Mathlib.Nat.{zero-add}
 use native.Mathlib.Numerals.{add-one}
 use native.Mathlib.Decide.{decLt}
 use native.Mathlib.Omega.{arith}
@@ -10,11 +10,11 @@ use lib.ListN.{length, getD}
 use Rattle.lists.proofs.Parts.{part-length}
 use Rattle.lists.proofs.Entries.{part-at}
 use Rattle.words.specs.Laid.{laidWord}
-use Rattle.algebra.specs.Poly.{Term}
 use Rattle.package.specs.declared.Head.{Head}
 use Rattle.working.specs.Working.{terms}
 use Rattle.working.specs.Polynomial.{polyTerm}
 use Rattle.working.specs.Family.{between, polyBetween, familyAt, Runs}
+use Rattle.working.proofs.Terms.{terms-shift}
 use Rattle.working.proofs.Between.{between-length}
 use Rattle.table.specs.Table.{primeIn, lettersIn, gensIn, basisCountIn, termsIn, itemsIn, keyIn, firstIn}
 use Rattle.table.specs.Polynomials.{termIn, polynomialsIn, relationsIn, basisIn}
@@ -68,14 +68,6 @@ sections-of {t = t} {u = u} coefs starts lens bytes few less b f = record {
       let same = key-kept t u (λ i q. f .below i (omega arith)) in
       f .inside k l ∙ ap (λ (key : ℕ → ℕ). rowEntry key coefs starts lens bytes k) (sym same);
 }
-
--- Runs of terms that agree, wherever they start.
-terms-shift : (F G : ℕ → Term) (a b n : ℕ) → ((j : ℕ) → j < n → F (a + j) ≡ G (b + j)) → terms F a n ≡ terms G b n
-unfolding terms
-terms-shift F G a b zero h = refl
-terms-shift F G a b (suc n) h =
-    ap₂ _∷_ (ap F (sym (add-zero a)) ∙ h 0 (omega arith) ∙ ap G (add-zero b))
-    (terms-shift F G (suc a) (suc b) n (λ j l. ap F (omega arith) ∙ h (suc j) (omega arith) ∙ ap G (omega arith)))
 
 -- What holds of the item j of a run.
 module _ {firsts : List ℕ} {base n m : ℕ} (r : Runs firsts base n m) (j : ℕ) (h : base ≤ j) (l : j < base + n) where

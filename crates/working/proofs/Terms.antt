@@ -1,7 +1,8 @@
 -- Runs of terms: what is next, how a run splits, and what holds of all of its terms.
-use mathlib.Core.Path.{_≡_, refl, ap, _∙_}
+use mathlib.Core.Path.{_≡_, refl, sym, ap, ap₂, _∙_}
 use mathlib.Core.List.{[], _∷_, _++_}
 use Prim.Native.Nat.{ℕ, zero, suc, _+_, _-_, _≤_, _<_}
+use native.Mathlib.Nat.{add-zero}
 use native.Mathlib.Numerals.{add-one}
 use native.Mathlib.Decide.{ℕ-discrete}
 use native.Mathlib.Omega.{arith}
@@ -78,23 +79,17 @@ module _ (F : ℕ → Term) where
         go (yes e) rest = rw e x
         go (no e) rest = rest (omega arith) (omega arith)
 
+-- two runs that agree term by term, wherever they start
+pub terms-shift : (G F : ℕ → Term) (a b n : ℕ) → ((j : ℕ) → j < n → G (a + j) ≡ F (b + j)) → terms G a n ≡ terms F b n
+unfolding terms
+terms-shift G F a b zero h = refl
+terms-shift G F a b (suc n) h =
+    ap₂ _∷_ (ap G (sym (add-zero a)) ∙ h 0 (omega arith) ∙ ap F (add-zero b))
+    (terms-shift G F (suc a) (suc b) n (λ j l. ap G (omega arith) ∙ h (suc j) (omega arith) ∙ ap F (omega arith)))
+
 -- two runs with the same terms
 pub terms-same : (G F : ℕ → Term) (i k : ℕ) → ((j : ℕ) → i ≤ j → j < i + k → G j ≡ F j) → terms G i k ≡ terms F i k
-unfolding terms
-terms-same G F i zero h = refl
-terms-same G F i (suc k) h = rw (h i (omega arith) (omega arith), terms-same G F (suc i) k (λ j a b. h j (omega arith) (omega arith)))
-
--- the same terms, one later
-terms-later : (G F : ℕ → Term) (i m : ℕ) → ((j : ℕ) → i ≤ j → j < i + m → G (suc j) ≡ F j) → terms G (suc i) m ≡ terms F i m
-unfolding terms
-terms-later G F i zero h = refl
-terms-later G F i (suc m) h = rw (h i (omega arith) (omega arith), terms-later G F (suc i) m (λ j a b. h j (omega arith) (omega arith)))
-
--- the same terms, one earlier
-terms-earlier : (G F : ℕ → Term) (i m : ℕ) → ((j : ℕ) → i ≤ j → j < i + m → G j ≡ F (suc j)) → terms G i m ≡ terms F (suc i) m
-unfolding terms
-terms-earlier G F i zero h = refl
-terms-earlier G F i (suc m) h = rw (h i (omega arith) (omega arith), terms-earlier G F (suc i) m (λ j a b. h j (omega arith) (omega arith)))
+terms-same G F i k h = terms-shift G F i i k (λ j l. h (i + j) (omega arith) (omega arith))
 
 module _ (G F : ℕ → Term) (k n : ℕ) (h : k ≤ n) where
   -- term n goes to k
@@ -104,7 +99,7 @@ module _ (G F : ℕ → Term) (k n : ℕ) (h : k ≤ n) where
       let b : G k ≡ F n = e k ∙ rw (right-at k n k refl) in
       let d : n + 1 - (k + 1) ≡ n - k = omega arith in
       let s : terms G (suc k) (n - k) ≡ terms F k (n - k) =
-      terms-later G F k (n - k) (λ j q r. e (suc j) ∙ rw (right-mid k n (suc j) (omega arith) (omega arith)) (ap F (omega arith))) in
+      terms-shift G F (suc k) k (n - k) (λ j l. e (suc k + j) ∙ rw (right-mid k n (suc k + j) (omega arith) (omega arith)) (ap F (omega arith))) in
       terms-cut G k (n + 1) (omega arith) ∙ rw (terms-next G k (n + 1) (omega arith), a, b, d, add-one k, s)
 
   -- term k goes behind the others
@@ -112,5 +107,5 @@ module _ (G F : ℕ → Term) (k n : ℕ) (h : k ≤ n) where
   terms-left e =
       let a : terms G 0 k ≡ terms F 0 k = terms-same G F 0 k (λ j _ q. e j ∙ rw (left-low k n j h (omega arith))) in
       let s : terms G k (n - k) ≡ terms F (suc k) (n - k) =
-      terms-earlier G F k (n - k) (λ j q r. e j ∙ rw (left-mid k n j q (omega arith), add-one j)) in
+      terms-shift G F k (suc k) (n - k) (λ j l. e (k + j) ∙ rw (left-mid k n (k + j) (omega arith) (omega arith)) (ap F (omega arith))) in
       terms-cut G k n h ∙ rw (a, s, add-one k)

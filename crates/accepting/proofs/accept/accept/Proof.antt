@@ -6,7 +6,8 @@ use Rattle.package.specs.Held.{seenAll}
 use Rattle.basis.proofs.BasisAnswers.{basis-refused, basis-sound, heads-sound}
 use Rattle.accepting.specs.Accepted.{Accepts}
 use Rattle.accepting.proofs.PackageRead.{PackageRead, answered, unread-refused}
-use Rattle.accepting.proofs.PackageTable.{unsound-refused, begins-in, nonzero-in, heads-in, rejected-refused, accepted-taken}
+use Rattle.accepting.proofs.PackageTable.{unsound-refused, begins-in, heads-in, rejected-refused, accepted-taken}
+use Rattle.accepting.proofs.SoundBasis.{sound-nonzero}
 use borrow.Author.Needs.{needs}
 use Rattle.accepting.proofs.accept.accept.Statement.{statement}
 use Rattle.accepting.proofs.accept.accept.Tie as tie
@@ -146,7 +147,7 @@ check-requires c κs =
     let q = e .1 .1 .0 in
     let rs = e .1 .1 .1 .0 in
     let ps = e .1 .1 .1 .1 in (
-      (e .0, heads-in r (e .0) (p .0) (p .1) (q .0) (q .1) rs ps sound _ _ heads, nonzero-in r (e .0) (p .0) (p .1) (q .0) (q .1) rs ps sound),
+      (e .0, heads-in r (e .0) (p .0) (p .1) (q .0) (q .1) rs ps sound _ _ heads, sound-nonzero _ _ ps sound),
       (begins-in r (e .0) (p .0) (p .1) (q .0) (q .1) rs ps sound, begun (was-read (whole j)) .pre .1),
     )
 

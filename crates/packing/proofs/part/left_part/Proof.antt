@@ -112,7 +112,7 @@ returns-2 c =
     let size = length-take-le i w (omega (arith, unpacked-length m S)) in
     let end : i ≤ 12 * l .loop .j = omega (arith, l .loop .inv .0, c .loop-test .left) in
     let p = filled-packs (take i w) (l .loop .j) i _ f codes size (omega arith) end in
-    ((f .size, p .0), p .1)
+    ((f .first .size, p .0), p .1)
 
 pub left-part-spec : {M : Type 1} → statement M
 left-part-spec =

@@ -96,7 +96,7 @@ returns-2 c =
     let size = length-drop i w ∙ ap (λ (x : ℕ). x - i) (unpacked-length m S) in
     let end : m - i ≤ 12 * l .loop .j = omega (arith, l .loop .inv .0, c .loop-test .left) in
     let p = filled-packs (drop i w) (l .loop .j) (m - i) _ f codes size (omega arith) end in
-    ((f .size, p .0), p .1)
+    ((f .first .size, p .0), p .1)
 
 pub right-part-spec : {M : Type 1} → statement M
 right-part-spec =

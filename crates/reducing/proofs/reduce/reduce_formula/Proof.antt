@@ -1,4 +1,4 @@
--- `reduce_formula` reads the formula, loads it into the arrays and reduces what they hold.
+-- `reduce_formula` reads the formula, loads it into the arrays, makes the index of the leading words and reduces what the arrays hold by it.
 use mathlib.Core.Path.{_∙_}
 use Prim.Native.Nat.{_-_}
 use native.Mathlib.Omega.{arith}
@@ -6,6 +6,7 @@ use lib.ListN.{take}
 use Rattle.package.specs.Held.{seenFormula, countFormula}
 use Rattle.table.specs.Table.{primeIn, lettersIn}
 use Rattle.reducing.specs.Reductions.{seenReduced, ShortHeld}
+use Rattle.reducing.proofs.BlankIndex.{zeros-blank}
 use Rattle.reducing.proofs.Cases.{wrong-refused, run-reduced}
 use Rattle.reducing.proofs.FormulaRead.{Read, answered}
 use borrow.Author.Needs.{needs}
@@ -98,12 +99,17 @@ load-requires c κs =
     let z = c .before .before .before .before .before .before .before .before .before .before .before .before .before .before .before .before .before .before .before .before .before .before .before .pre in
     ((z .0, r .given, omega (arith, r .few)), (r .lettered, (r .written, z .2)))
 
+index-leads-requires : tie.Need-index-leads-requires
+index-leads-requires c κs =
+    let z = begun (c .before .before .before .before .before .before .before .before .before .before .before .before .before) .pre in
+    (z .0, (z .1, zeros-blank))
+
 reduce-held-requires : tie.Need-reduce-held-requires
 reduce-held-requires c κs =
-    let z = c .before .before .before .before .before .before .before .before .before .before .before .before .before .before .before .before .before .before .before .before .before .before .before .before .before .before .before .before .pre in
-    let r = formula-in (c .before .before .before .before .before .before .before .before .before .before .before .before .before .before .before .before) in
-    let e = c .before .before .before .before .load .ensures in
-    (z .0, z .1, e .1 .0, omega (arith, e .0, r .few))
+    let b = c .before .before .before .before .before .before .before .before .before .before .before .before .before .before .before .before .before .before .before in
+    let z = begun b .pre in
+    let e = c .before .before .before .before .before .before .before .load .ensures in
+    (z .0, record { nonzero = z .1; indexed = c .before .before .before .before .before .index-leads .ensures }, e .1 .0, omega (arith, e .0, formula-in b .few))
 
 returns : tie.Need-returns
 unfolding seenReduced ShortHeld seenFormula
@@ -113,9 +119,9 @@ returns c =
 
 returns-2 : tie.Need-returns-2
 returns-2 c =
-    let r = formula-in (c .before .before .before .before .before .before .before .before .before .before .before .before .before .before .before .before .before) in
+    let r = formula-in (c .before .before .before .before .before .before .before .before .before .before .before .before .before .before .before .before .before .before .before .before) in
     let e = c .reduce-held .ensures in
-    (e .0 ∙ run-reduced _ _ _ _ _ (r .reads) (c .before .before .before .before .before .load .ensures .1 .1), e .1)
+    (e .0 ∙ run-reduced _ _ _ _ _ (r .reads) (c .before .before .before .before .before .before .before .before .load .ensures .1 .1), e .1)
 
 pub reduce-formula-spec : {M : Type 1} → statement M
 reduce-formula-spec =
@@ -139,6 +145,7 @@ reduce-formula-spec =
     part-load-start-3
     part-load-end-3
     load-requires
+    index-leads-requires
     reduce-held-requires
     returns
     returns-2)

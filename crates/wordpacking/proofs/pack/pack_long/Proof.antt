@@ -7,19 +7,19 @@ use lib.ListN.{take, drop}
 use Rattle.table.specs.Table.{codeIn}
 use Rattle.wordpacking.proofs.KeyedWords.{size-even}
 use Rattle.wordpacking.proofs.Letters.{block-of-text}
-use Rattle.wordpacking.proofs.WordBlocks.{Fronted, fronted-none, fronted-more, fronted-packed}
+use Rattle.packing.proofs.Filling.{FirstBlocks, first-none, first-more, first-packed}
 use borrow.Author.Needs.{needs}
 use Rattle.wordpacking.proofs.pack.pack_long.Statement.{statement}
 use Rattle.wordpacking.proofs.pack.pack_long.Tie as tie
 
 abbrev Inv-loop : tie.InvT-loop
-Inv-loop t text from n dst₀ j₀ dst j = (j ≤ 6) × Fronted (map (codeIn t) (take n (drop from text))) j dst
+Inv-loop t text from n dst₀ j₀ dst j = (j ≤ 6) × FirstBlocks (map (codeIn t) (take n (drop from text))) j dst
 
 abbrev μ-loop : tie.MeasureT-loop
 μ-loop t text from n dst₀ j₀ dst j = 6 - j
 
 loop-holds : tie.Need-loop-holds Inv-loop μ-loop
-loop-holds c = let s = c .before in (omega arith, fronted-none _ (s .args .dst .now) (s .pre .1 .1))
+loop-holds c = let s = c .before in (omega arith, first-none _ (s .args .dst .now) (s .pre .1 .1))
 
 mul-lesser : tie.Need-mul-lesser Inv-loop μ-loop
 mul-lesser c = search needs
@@ -61,7 +61,7 @@ loop-again c =
     let j = l .loop .j in
     let block = c .pack-block .ensures
     ∙ block-of-text f (a .text .now) (a .from) (a .n) (12 * j) _ _ (s .pre .0 .1) (k .before .lesser .ensures) (k .lesser2 .ensures) in
-    (search needs, fronted-more _ j _ _ (l .loop .inv .1) (k .before .before .loop-test .taken) block)
+    (search needs, first-more _ j _ _ (l .loop .inv .1) (k .before .before .loop-test .taken) block)
 
 even-size-requires : tie.Need-even-size-requires Inv-loop μ-loop
 even-size-requires c κs = search needs
@@ -73,7 +73,7 @@ returns c =
     let a = s .args in
     let six : l .loop .j ≡ 6 = search needs in (
       c .even-size .ensures ∙ size-even (a .t .now) (s .pre .0 .0) (a .text .now) (a .from) (a .n) (s .pre .0 .1) (s .pre .1 .0),
-      fronted-packed _ (l .loop .j) _ (l .loop .inv .1) six,
+      first-packed _ (l .loop .j) _ (l .loop .inv .1) six,
     )
 
 pub pack-long-spec : {M : Type 1} → statement M
