@@ -13,9 +13,10 @@ import packing
 import places
 import reading
 import real
+import scaled
 import sums
 import terms
 
-for part in (reading, basis, sums, terms, formulas, order, listing, real, gf256, places, packing):
+for part in (reading, basis, sums, terms, formulas, order, listing, real, gf256, places, packing, scaled):
     part.cases()
 cases.write()

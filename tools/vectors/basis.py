@@ -1,17 +1,24 @@
-"""Refusals 8 and 9: the leading words of the basis. Every service gives them."""
-from cases import accepted, refused, shortened, unread
-from packages import CONSTANT, NOTHING, copies, formula, monomials, own_basis, package, with_line, with_lines
+"""Refusals 8 and 9: a zero polynomial in the basis (P4), and leading words inside one another. Every service gives them."""
+from cases import accepted, listed, refused, shortened, unread
+from packages import CONSTANT, E_LIST, NOTHING, copies, formula, monomials, own_basis, package, with_line, with_lines
 
 
-def leading_with_one():
-    two = "7 2 1 2"
-    unread("01 row 8: `B 1 2 aa`", with_line(6, "B 1 2 aa"), 8, 1)
-    unread("A20 8 of item 2 before 9 of item 1", package(two, ["B 1 1 aab", "B 2 2 aa"]), 8, 2)
+def zero_polynomials():
+    unread("A20 8 of item 2 before 9 of item 1", package("7 2 1 3", ["B 1 1 aab", "B 3 1 aa"]), 8, 2)
     unread("A20 no B 3 line", with_line(2, "7 2 1 3"), 8, 3)
-    unread("no B line", package(two, []), 8, 1)
-    unread("B 1 absent, B 2 leads with 2", with_lines({6: [], 7: [], 8: ["B 2 2 ab"]}), 8, 1)
-    unread("leading coef p-1", with_line(8, "B 2 6 ab"), 8, 2)
-    unread("64 basis polynomials, the last leads with 2", copies(32).replace("B 64 1 aeib\n", "B 64 2 aeib\n"), 8, 64)
+    unread("no B line", package("7 2 1 2", []), 8, 1)
+    unread("no B 1 line", with_lines({6: [], 7: []}), 8, 1)
+    unread("no B 2 line", with_lines({8: [], 9: []}), 8, 2)
+    unread("64 basis polynomials, the last is zero", copies(32).replace("B 64 1 aeib\nB 64 6 baei\n", ""), 8, 64)
+    unread("64 basis polynomials, all zero", package("7 26 0 64", []), 8, 1)
+
+
+def leading_with_others():
+    """01's row 8 and its like are refused by 8 no more (P4): the sums of E are over polynomials that lead with 1."""
+    refused("01 row 8, P4: `B 1 2 aa`", with_line(6, "B 1 2 aa"), 11, 1)
+    listed("01 row 8, P4: `B 1 2 aa`", with_line(6, "B 1 2 aa"), E_LIST)
+    refused("P4 leading coef p-1", with_line(8, "B 2 6 ab"), 11, 2)
+    unread("P4 9 of a polynomial that leads with 2", package("7 2 1 2", ["B 1 1 aab", "B 2 2 aa"]), 9, 1)
     terms = ["G 1 1 ab", "G 1 2 b", "B 1 1 ab", "B 1 2 b"]
     accepted("a coef of 2 behind the leading one", package("7 2 1 1", terms, ["B 1 1 - 1 -", "G 1 1 - 1 -"]), 0)
 
@@ -46,6 +53,7 @@ def constant_and_empty():
 
 
 def cases():
-    leading_with_one()
+    zero_polynomials()
+    leading_with_others()
     inside_another()
     constant_and_empty()

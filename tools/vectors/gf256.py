@@ -52,7 +52,7 @@ def which_numbers():
 
 
 def coefficients():
-    """1 to 255: 256 is out of bounds, as p always is. The leading coefficient is 1 as before."""
+    """1 to 255: 256 is out of bounds, as p always is."""
     halted("P9.1 `256 a`", NOTHING, formula("256 a"), 16, 2)
     halted("P9.1 `1 aba`, `256 a`", OVER, formula("1 aba", "256 a"), 16, 3)
     halted("P9.1 `0 a`", NOTHING, formula("0 a"), 16, 2)
@@ -64,7 +64,8 @@ def coefficients():
     unread("P9.1 0 in a sum line", over(11, "B 1 0 - 1 -"), 5, 11)
     accepted("P9.1 255 in a package", equal(255), 0)
     shortened("P9.1 255 in a package", equal(255), formula("1 a"), 1, formula("255 b"))
-    unread("P9.1 a basis polynomial leads with 255", over(6, "B 1 255 aa"), 8, 1)
+    # Its B sum is aa + b still.
+    refused("P9.1 a basis polynomial leads with 255", over(6, "B 1 255 aa"), 11, 1)
     unread("P9.1 a leading word holds another's", over(8, "B 2 1 aab"), 9, 2)
 
 

@@ -50,7 +50,7 @@ def printed():
     prints("no byte", "", "refused 2 1\n")
     prints("A40 line 2 `9 2 1 2`", with_line(2, "9 2 1 2"), "refused 3 2\n")
     prints("line 4 `G 1 7 aa`", with_line(4, "G 1 7 aa"), "refused 5 4\n")
-    prints("line 6 `B 1 2 aa`", with_line(6, "B 1 2 aa"), "refused 8 1\n")
+    prints("line 2 `7 2 1 3`", with_line(2, "7 2 1 3"), "refused 8 3\n")
     prints("line 8 `B 2 1 aab`", with_line(8, "B 2 1 aab"), "refused 9 2\n")
     prints("no relations and no basis", NOTHING, LIST_NAMES)
 

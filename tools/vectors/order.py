@@ -17,13 +17,13 @@ def lines_top_down():
 
 
 def reading_before_judging():
-    unread("2 of line 17 before 8", with_lines({6: ["B 1 2 aa"], 17: ["O 2 1 b 1"]}), 2, 17)
+    unread("2 of line 17 before 8", with_lines({2: ["7 2 1 3"], 17: ["O 2 1 b 1"]}), 2, 17)
     unread("5 of line 17 before 9", with_lines({8: ["B 2 1 aab"], 17: ["O 2 1 b 9 -"]}), 5, 17)
-    unread("6 of line 18 before 8", with_lines({6: ["B 1 2 aa"], 18: ["B 1 1 - 1 -"]}), 6, 18)
-    unread("8 before 11", with_lines({6: ["B 1 2 aa"], 11: []}), 8, 1)
-    unread("8 of B 2 before 11 of B 1", with_lines({8: ["B 2 2 ab"], 11: []}), 8, 2)
+    unread("6 of line 18 before 8", with_lines({2: ["7 2 1 3"], 18: ["B 1 1 - 1 -"]}), 6, 18)
+    unread("8 before 11", with_lines({2: ["7 2 1 3"], 11: []}), 8, 3)
+    unread("8 of B 2 before 11 of B 1", with_lines({8: [], 9: [], 11: []}), 8, 2)
     unread("9 before 11", with_lines({8: ["B 2 1 aab"], 11: []}), 9, 2)
-    unread("8 before 15", with_lines({6: ["B 1 2 aa"], 18: ["O 3 1 - 1 -"]}), 8, 1)
+    unread("8 before 15", with_lines({2: ["7 2 1 3"], 18: ["O 3 1 - 1 -"]}), 8, 3)
     unread("9 before 14", with_lines({8: ["B 2 1 aab"], 15: ["O 1 1 a 1 -"]}), 9, 2)
 
 
@@ -56,7 +56,7 @@ def formulas_last():
         (4, 2, with_line(2, "7 27 1 2")),
         (5, 4, with_line(4, "G 1 7 aa")),
         (6, 5, with_lines({4: [LINES[4]], 5: [LINES[3]]})),
-        (8, 1, with_line(6, "B 1 2 aa")),
+        (8, 3, with_line(2, "7 2 1 3")),
         (9, 2, with_line(8, "B 2 1 aab")),
         (11, 2, with_line(13)),
         (12, 1, with_line(14)),

@@ -11,15 +11,15 @@ use Rattle.field.specs.Field.{Operations, Field}
 use Rattle.lists.specs.All.{All, done, _also_}
 use Rattle.words.specs.Order.{Order, Lt, Admissible}
 use Rattle.words.specs.Place.{Stands}
-use Rattle.lists.proofs.Every.{all-map, all-at}
 use Rattle.algebra.specs.Poly.{Poly}
 use Rattle.algebra.specs.Written.{Written}
 use Rattle.algebra.specs.Ideal.{Family, family, Line, Over, InIdeal}
-use Rattle.algebra.specs.Groebner.{lead, leadCoef, Led, Certified}
+use Rattle.algebra.specs.Groebner.{lead, Led, Certified}
 use Rattle.algebra.specs.Short.{Accepted}
 use Rattle.algebra.proofs.Sums.{ideal-zero}
 use Rattle.algebra.proofs.Leading.{led-ne-nil}
 use Rattle.algebra.proofs.WrittenForm.{written-led}
+use Rattle.working.proofs.Families.{family-written}
 use Rattle.overlaps.specs.Overlaps.{Overlap, Overlapping, IsOverlap, leads, overlaps}
 use Rattle.overlaps.proofs.Listed.{listed-iff}
 use Rattle.overlaps.proofs.Certification.{lead-of, Certifies, overlaps-resolved, inclusions-none}
@@ -65,11 +65,7 @@ module _ {L : ℕ → Type 0} {K : Operations} (F : Field K) {O : Order} (A : Ad
     (wr : All (Written K O) rs) (wp : All (Written K O) ps) (over : All (λ s. Over L (lineOf s)) ss) (h : Facts K O rs ps ss) where
   -- each polynomial leads, or its number names none
   pub basis-leads : (i : ℕ) → (family ps i ≡ []) ⊎ Led K O (family ps i)
-  basis-leads i = go (in-range ps i)
-    where
-      go : ((m : ℕ) × (i ≡ suc m) × (m < length ps)) ⊎ (family ps i ≡ []) → (family ps i ≡ []) ⊎ Led K O (family ps i)
-      go (inr e) = inl e
-      go (inl (m, e, l)) = rw (e, family-suc ps m) (written-led F A (getD ps m []) (all-at wp [] m l))
+  basis-leads i = written-led F A (family ps i) (family-written K O ps wp i)
 
   -- a polynomial that leads is one of the list
   named : (i : ℕ) → Led K O (family ps i) → (m : ℕ) × (i ≡ suc m) × (m < length ps)
@@ -78,9 +74,6 @@ module _ {L : ℕ → Type 0} {K : Operations} (F : Field K) {O : Order} (A : Ad
       go : ((m : ℕ) × (i ≡ suc m) × (m < length ps)) ⊎ (family ps i ≡ []) → (m : ℕ) × (i ≡ suc m) × (m < length ps)
       go (inl x) = x
       go (inr e) = absurd (led-ne-nil l e)
-
-  leads-with-one : (i : ℕ) → Led K O (family ps i) → leadCoef (family ps i) ≡ 1
-  leads-with-one i l = let (m, e, b) = named i l in rw (e, family-suc ps m) (all-at (h .leads-one) [] m b .1)
 
   none-inside : (i j k : ℕ) → Led K O (family ps i) → Led K O (family ps j) → i ≢ j → Stands (lead (family ps j)) (lead (family ps i)) k → ⊥
   none-inside i j k li lj n s =
@@ -110,7 +103,7 @@ module _ {L : ℕ → Type 0} {K : Operations} (F : Field K) {O : Order} (A : Ad
   accepted = record {
     certified = record {
       leads = basis-leads;
-      overlaps = overlaps-resolved F A (family ps) leads-with-one certifies;
+      overlaps = overlaps-resolved F A (family ps) certifies;
       inclusions = inclusions-none F A (family ps) none-inside;
     };
     basis-sums = sums (family rs) ps sumB (h .basis-sums);

@@ -62,7 +62,7 @@ module _ {K : Operations} (F : Field K) {O : Order} (A : Admissible O) where
           let (p, q) = both (kinds-iff F A ss (sides rs ps) targets .0 f) in
           let n = leads-length ps in
           record {
-            leads-one = leads-to ps 1 c;
+            nonzero = leads-to ps 1 c;
             apart = λ x y z l m ne s. apart-to (leads ps) (leads ps) 1 d x (omega arith) y z (omega arith) (λ q. ne (omega arith)) (rw (lead-of ps (suc y), lead-of ps (suc x)) s);
             basis-sums = p;
             relation-sums = q;
@@ -76,7 +76,7 @@ module _ {K : Operations} (F : Field K) {O : Order} (A : Admissible O) where
           let n = leads-length ps in
           let d = apart-from (leads ps) (leads ps) 1 (λ x l y z m ne s. h .apart x y z (omega arith) (omega arith) (λ q. ne (omega arith)) (rw (← lead-of ps (suc y), ← lead-of ps (suc x)) s)) in
           then-iff v1 (thenJudge v2 (thenJudge v3 v4)) .1 (
-            then-iff (leadsJudged ps 1) (apartJudged (leads ps) (leads ps) 1) .1 (leads-from ps 1 (h .leads-one), d),
+            then-iff (leadsJudged ps 1) (apartJudged (leads ps) (leads ps) 1) .1 (leads-from ps 1 (h .nonzero), d),
             then-iff v2 (thenJudge v3 v4) .1 (
               kinds-iff F A ss (sides rs ps) targets .1 (h .basis-sums also (h .relation-sums also done)),
               then-iff v3 v4 .1 (

@@ -1,4 +1,4 @@
--- 8 and 9: every basis polynomial leads with 1, and no leading word stands inside another's.
+-- 8 and 9: no basis polynomial is zero, and no leading word stands inside another's.
 use mathlib.Core.Path.{_≡_, refl, sym, _∙_, ap}
 use mathlib.Core.Bool.{Bool, true, false, true≢false}
 use mathlib.Core.Logic.{_≢_}
@@ -8,37 +8,30 @@ use native.Mathlib.Nat.{add-zero}
 use native.Mathlib.Omega.{arith}
 use lib.Dec.{eqb}
 use lib.ListN.{length, getD}
-use borrow.Author.Tests.{eq-eqb, eqb-true, eqb-false}
+use borrow.Author.Tests.{eqb-true, eqb-false}
 use Rattle.lists.specs.All.{All, done, _also_}
-use Rattle.lists.proofs.Every.{all-map}
 use Rattle.words.specs.declared.Found.{Found}
 use Rattle.words.specs.declared.Found.the-variants.{At, Nowhere}
 use Rattle.words.specs.Word.{Word}
 use Rattle.words.specs.Place.{Stands, leftmost}
 use Rattle.words.proofs.Standing.{leftmost-at, leftmost-nowhere}
 use Rattle.algebra.specs.Poly.{Poly}
-use Rattle.algebra.specs.Groebner.{leadCoef}
 use Rattle.overlaps.specs.Overlaps.{leads}
 use Rattle.acceptance.specs.Check.{fine, leadsJudged, holdsOther, apartJudged, basisJudged}
 use Rattle.acceptance.proofs.Verdicts.{refusal-not-fine, then-iff}
 
--- 8: every polynomial is nonzero and leads with 1
-pub leads-to : (ps : List Poly) (i : ℕ) → leadsJudged ps i ≡ fine → All (λ f. (f ≢ []) × (leadCoef f ≡ 1)) ps
-unfolding leadsJudged leadCoef
+-- 8: every polynomial is nonzero
+pub leads-to : (ps : List Poly) (i : ℕ) → leadsJudged ps i ≡ fine → All (λ f. f ≢ []) ps
+unfolding leadsJudged
 leads-to [] i e = done
 leads-to ([] ∷ ps) i e = absurd (refusal-not-fine e)
-leads-to ((t ∷ f) ∷ ps) i e = go (eqb (t .coef) 1) refl (leads-to ps (suc i))
-  where
-    go : (b : Bool) → eqb (t .coef) 1 ≡ b → (leadsJudged ps (suc i) ≡ fine → All (λ f. (f ≢ []) × (leadCoef f ≡ 1)) ps)
-        → All (λ f. (f ≢ []) × (leadCoef f ≡ 1)) ((t ∷ f) ∷ ps)
-    go true d more = (cons≢nil, eqb-true (t .coef) 1 d) also more (rw (leadsJudged, d) at e)
-    go false d more = absurd (refusal-not-fine (rw (leadsJudged, d) at e))
+leads-to ((t ∷ f) ∷ ps) i e = cons≢nil also leads-to ps (suc i) e
 
-pub leads-from : (ps : List Poly) (i : ℕ) → All (λ f. (f ≢ []) × (leadCoef f ≡ 1)) ps → leadsJudged ps i ≡ fine
-unfolding leadsJudged leadCoef
+pub leads-from : (ps : List Poly) (i : ℕ) → All (λ f. f ≢ []) ps → leadsJudged ps i ≡ fine
+unfolding leadsJudged
 leads-from [] i done = refl
-leads-from ([] ∷ ps) i (h also hs) = absurd (h .0 refl)
-leads-from ((t ∷ f) ∷ ps) i (h also hs) = rw (leadsJudged, eq-eqb (t .coef) 1 (h .1)) (leads-from ps (suc i) hs)
+leads-from ([] ∷ ps) i (h also hs) = absurd (h refl)
+leads-from ((t ∷ f) ∷ ps) i (h also hs) = leads-from ps (suc i) hs
 
 -- 9: no other word of the list, numbered from j on, stands inside u
 unfoldable pub Apart : Word → ℕ → List Word → ℕ → Type 0
@@ -111,4 +104,4 @@ leads-length (f ∷ ps) = ap suc (leads-length ps)
 -- A basis that is judged fine has no zero polynomial.
 pub fine-nonzero : (ps : List Poly) → basisJudged ps ≡ fine → All (λ f. f ≢ []) ps
 unfolding basisJudged
-fine-nonzero ps e = all-map (λ f h. h .0) (leads-to ps 1 (then-iff (leadsJudged ps 1) (apartJudged (leads ps) (leads ps) 1) .0 e .0))
+fine-nonzero ps e = leads-to ps 1 (then-iff (leadsJudged ps 1) (apartJudged (leads ps) (leads ps) 1) .0 e .0)

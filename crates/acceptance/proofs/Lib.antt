@@ -2,6 +2,7 @@
 pub mod Verdicts
 pub mod Remaining
 pub mod BasisFacts
+pub mod FirstZero
 pub mod SumFacts
 pub mod LinesTaken
 pub mod AcceptedIff

@@ -16,7 +16,10 @@ use Rattle.words.proofs.WordOrder.{word-order-admissible}
 use Rattle.algebra.specs.Poly.{Poly, InLetters}
 use Rattle.algebra.specs.Written as W
 use Rattle.algebra.specs.Written.{Written}
-use Rattle.algebra.specs.Ideal.{Over}
+use Rattle.algebra.specs.Ideal.{family, Over}
+use Rattle.algebra.specs.Groebner.{Led}
+use Rattle.algebra.proofs.WrittenForm.{written-led}
+use Rattle.working.proofs.Families.{family-written}
 use Rattle.package.specs.Names.{termG, termB}
 use Rattle.package.specs.declared.Head.{Head}
 use Rattle.package.specs.declared.Limits.{Limits}
@@ -156,6 +159,11 @@ module _ (P : Package) (r : Readable P) where
   pub basis-written : All (Written (fieldOf (P .head .p)) wordOrder) (basis P)
   unfolding basis
   basis-written = polynomials-all (Written (fieldOf (P .head .p)) wordOrder) termB (P .terms) (λ i. item-both termB i .0) 1 (P .head .basis)
+
+  -- each polynomial of the basis leads, or it is zero
+  pub basis-leading : (i : ℕ) → (family (basis P) i ≡ []) ⊎ Led (fieldOf (P .head .p)) wordOrder (family (basis P) i)
+  basis-leading i =
+      written-led readable-field word-order-admissible (family (basis P) i) (family-written (fieldOf (P .head .p)) wordOrder (basis P) basis-written i)
 
   pub relations-letters : All (InLetters (Letter (P .head .letters))) (relations P)
   unfolding relations

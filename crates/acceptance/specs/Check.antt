@@ -32,11 +32,11 @@ unfoldable pub thenJudge : Verdict → Verdict → Verdict
 thenJudge (refusal n k) v = refusal n k
 thenJudge fine v = v
 
--- 8: the first polynomial, numbered from i on, that is zero or does not lead with 1.
+-- 8: the first polynomial, numbered from i on, that is zero.
 unfoldable pub leadsJudged : List Poly → ℕ → Verdict
 leadsJudged [] i = fine
 leadsJudged ([] ∷ ps) i = refusal 8 i
-leadsJudged ((t ∷ f) ∷ ps) i = elim (eqb (t .coef) 1) [ true ↦ leadsJudged ps (suc i) | false ↦ refusal 8 i ]
+leadsJudged ((t ∷ f) ∷ ps) i = leadsJudged ps (suc i)
 
 -- A word of the list, numbered from j on, that is not number i stands inside u.
 unfoldable pub holdsOther : Word → ℕ → List Word → ℕ → Bool

@@ -11,7 +11,7 @@ use Rattle.words.specs.Place.{Stands}
 use Rattle.algebra.specs.Poly.{Poly, Same, sub}
 use Rattle.algebra.specs.Written.{Written}
 use Rattle.algebra.specs.Ideal.{Family, family, Line, value}
-use Rattle.algebra.specs.Groebner.{lead, leadCoef, top}
+use Rattle.algebra.specs.Groebner.{lead, top}
 use Rattle.overlaps.specs.Overlaps as O
 use Rattle.overlaps.specs.Overlaps.{leads, overlaps, overlapWord, difference}
 use Rattle.package.specs.Names.{sumB, sumG, sumO}
@@ -36,8 +36,8 @@ overlapAt ps k = getD (record { first = 0; second = 0; shared = 0 } ∷ overlaps
 
 -- What holds of relations rs, basis ps and sum lines ss.
 pub record Facts (K : Operations) (O : Order) (rs ps : List Poly) (ss : List SumLine) : Type 0 where
-  -- every basis polynomial is nonzero with leading coefficient 1
-  pub leads-one : All (λ f. (f ≢ []) × (leadCoef f ≡ 1)) ps
+  -- every basis polynomial is nonzero
+  pub nonzero : All (λ f. f ≢ []) ps
   -- no leading word stands inside another polynomial's (equal counts as inside)
   pub apart : (i j k : ℕ) → i < length ps → j < length ps → i ≢ j → Stands (lead (getD ps j [])) (lead (getD ps i [])) k → ⊥
   -- B sums equal the basis

@@ -1,4 +1,3 @@
--- What `accept` is proved by, and what other crates cite: that a sound basis has no zero polynomial.
-pub mod SoundBasis
+-- What `accept` is proved by.
 mod PackageRead
 mod PackageTable

@@ -124,7 +124,6 @@ module _ {bytes cs os ls fs : List ℕ} {h : Head} {m at n : ℕ} (r : PackageRe
             whole = P;
             accepted = judged fine (sym verdict-is ∙ z);
             readable = readable;
-            sound = fine-basis;
             tabled = T;
             head = r .head ∙ sym head-is;
             relations = rs ∙ r .relations;

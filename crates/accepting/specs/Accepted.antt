@@ -7,7 +7,6 @@ use Rattle.package.specs.Package.{Package, refused, read}
 use Rattle.package.specs.Readable.{Readable}
 use Rattle.overlaps.specs.Overlaps.{leads, overlaps}
 use Rattle.acceptance.specs.Content.{relations, basis}
-use Rattle.acceptance.specs.Check.{fine, basisJudged}
 use Rattle.acceptance.specs.Acceptance.{acceptance}
 use Rattle.table.specs.Polynomials.{relationsIn, basisIn}
 use Rattle.table.specs.Tabled.{Tabled}
@@ -20,7 +19,6 @@ pub record TableAccepted (bytes t : List ℕ) : Type 0 where
   pub whole : Package
   pub accepted : acceptance bytes ≡ read whole
   pub readable : Readable whole
-  pub sound : basisJudged (basis whole) ≡ fine
   pub tabled : Tabled t
   pub head : whole .head ≡ headIn t
   pub relations : relationsIn t ≡ relations whole

@@ -15,3 +15,4 @@ pub mod Spots
 pub mod RuleOfSteps
 pub mod Running
 pub mod OneSequence
+pub mod ComputedSteps

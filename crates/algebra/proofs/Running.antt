@@ -65,7 +65,7 @@ module _ (limit : ℕ) (K : Operations) (O : Order) (ps : List Poly) where
   since (suc b) used f = go (target ps f) refl (λ t i n. since b (suc used) (stepped K O ps f t i n))
     where
       more : (t : Term) (i n : ℕ) → target ps f ≡ reducible t i n → (o : Ended) → Since (suc used) (stepped K O ps f t i n) o → Since used f o
-      more t i n e (answer N m) (xs, s, p) = (lineAt ps t i n ∷ xs, step e s, omega arith)
+      more t i n e (answer N m) (xs, s, p) = (lineAt K ps t i n ∷ xs, step e s, omega arith)
       more t i n e (over m) h = tt
       more t i n e spent h = tt
 
@@ -104,7 +104,7 @@ module _ {K : Operations} (F : Field K) {O : Order} (A : Admissible O) (ps : Lis
 
   -- a property P of words and one Q of lines that the steps keep
   module _ (P : Word → Type 0) (Q : Line → Type 0)
-      (line-ok : (t : Term) (i n : ℕ) → P (t .word) → spot ps (t .word) ≡ found i n → Q (lineAt ps t i n))
+      (line-ok : (t : Term) (i n : ℕ) → P (t .word) → spot ps (t .word) ≡ found i n → Q (lineAt K ps t i n))
       (words-ok : (x : Line) → Q x → All (λ t. P (t .word)) (shift (x .left) (x .right) (family ps (x .of)))) where
     stepped-words : (f : Poly) (x : Line) → All (λ t. P (t .word)) f → Q x → All (λ t. P (t .word)) (takeAway K O (family ps) f x)
     unfolding takeAway
@@ -115,7 +115,7 @@ module _ {K : Operations} (F : Field K) {O : Order} (A : Admissible O) (ps : Lis
     unfolding stepped
     sequence-words v (ended e) = v
     sequence-words {f} v (step {t = t} {i} {n} e s) =
-        let (a, b) = target-reducible ps (λ r. P (r .word)) f t i n v e in sequence-words (stepped-words f (lineAt ps t i n) v (line-ok t i n a b)) s
+        let (a, b) = target-reducible ps (λ r. P (r .word)) f t i n v e in sequence-words (stepped-words f (lineAt K ps t i n) v (line-ok t i n a b)) s
 
     pub sequence-ran : {f N : Poly} {xs : List Line} → Written K O f → All (λ t. P (t .word)) f → Sequence K O ps f xs N → Ran Q K O ps f xs N
     unfolding stepped value
@@ -129,7 +129,7 @@ module _ {K : Operations} (F : Field K) {O : Order} (A : Admissible O) (ps : Lis
         go (sequence-ran (takeAway-written F A (family ps) f x c) (stepped-words f x v q) s)
       where
         x : Line
-        x = lineAt ps t i n
+        x = lineAt K ps t i n
 
         q : Q x
         q = let (a, b) = target-reducible ps (λ r. P (r .word)) f t i n v e in line-ok t i n a b
@@ -148,12 +148,12 @@ module _ {K : Operations} (F : Field K) {O : Order} (A : Admissible O) (ps : Lis
         }
 
   module _ (L : ℕ → Type 0) (valid : (i : ℕ) → InLetters L (family ps i)) where
-    line-over : (t : Term) (i n : ℕ) → All L (t .word) → spot ps (t .word) ≡ found i n → Over L (lineAt ps t i n)
+    line-over : (t : Term) (i n : ℕ) → All L (t .word) → spot ps (t .word) ≡ found i n → Over L (lineAt K ps t i n)
     unfolding lineAt
     line-over t i n a e =
         let (c, d) = spot-found ps (t .word) i n e in
-        let (x, y) = all-split (lineAt ps t i n .left) (lead (family ps n) ++ lineAt ps t i n .right) (rw (← d) at a) in
-        let (z, u) = all-split (lead (family ps n)) (lineAt ps t i n .right) y in
+        let (x, y) = all-split (lineAt K ps t i n .left) (lead (family ps n) ++ lineAt K ps t i n .right) (rw (← d) at a) in
+        let (z, u) = all-split (lead (family ps n)) (lineAt K ps t i n .right) y in
         (x, u)
 
     -- the lines taken away are over the letters

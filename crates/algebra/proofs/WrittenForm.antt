@@ -2,7 +2,7 @@
 -- The first term of a written form has its word's coefficient (`coeff-first`), and words above it have none (`coeff-over`); so two written forms of
 -- one polynomial begin with the same term, and so on behind it (`written-unique`). The computed written form is the one (`is-written`), and two
 -- formal sums are equal as polynomials exactly if theirs are one list (`same-iff-written`). The rest is what code needs: properties of all words
--- (`written-all`), the written form by index (`written-by-index`), and multiples of one (`written-multiple`).
+-- (`written-all`), the written form by index (`written-by-index`), multiples of one (`written-multiple`), and factors that change nothing (`scale-kept`).
 use mathlib.Core.Path.{_≡_, refl, sym, _∙_, ap, ap₂, subst}
 use mathlib.Core.Logic.{_≢_, _⊎_, inl, inr, _↔_}
 use mathlib.Core.List.{List, [], _∷_, _++_}
@@ -10,7 +10,7 @@ use Prim.Native.Nat.{ℕ, suc, _<_}
 use native.Mathlib.Omega.{arith}
 use lib.ListN.{length, getD}
 use Rattle.field.specs.Field.{Operations, Field}
-use Rattle.field.proofs.Derived.{add-left-cancel, eq-of-sub-eq-zero, mul-ne-zero}
+use Rattle.field.proofs.Derived.{one-mul, add-left-cancel, eq-of-sub-eq-zero, mul-ne-zero}
 use Rattle.lists.specs.All.{All, done, _also_}
 use Rattle.words.specs.Word.{Word, around}
 use Rattle.words.specs.Order.{Order, Lt, Admissible}
@@ -116,6 +116,17 @@ module _ {K : Operations} (F : Field K) {O : Order} (A : Admissible O) where
       term (h 0 (omega arith) .0) (h 0 (omega arith) .1)
       (falls t f d (λ i p. g i (omega arith)))
       (written-by-index f d (λ i p. h (suc i) (omega arith)) (λ i p. g (suc i) (omega arith)))
+
+  -- a factor that changes no element changes no polynomial in written form; 1 is such a factor
+  pub scale-kept : (c : ℕ) → ((a : ℕ) → K .mul c a ≡ K .red a) → {f : Poly} → Written K O f → scale K c f ≡ f
+  unfolding scale
+  scale-kept c h zero = refl
+  scale-kept c h (term {t} {f} a b d w) =
+      let e : K .mul c (t .coef) ≡ t .coef = h (t .coef) ∙ F .red-elem (t .coef) a in
+      rw e (ap (λ (g : Poly). record { coef = t .coef; word = t .word } ∷ g) (scale-kept c h w))
+
+  pub scale-one : {f : Poly} → Written K O f → scale K 1 f ≡ f
+  scale-one = scale-kept 1 (one-mul F)
 
   -- a multiple of a written form is one
   pub written-multiple : (c : ℕ) (l r : Word) {f : Poly} → K .red c ≢ 0 → Written K O f → Written K O (scale K c (shift l r f))

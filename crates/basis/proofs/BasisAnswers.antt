@@ -13,7 +13,7 @@ use Rattle.basis.specs.Heads.{HeadsOf}
 use Rattle.basis.specs.Answer.{basisVerdict, HeadsWhere}
 
 module _ (ps : List Poly) where
-  -- 8 where a polynomial is zero or does not lead with 1
+  -- 8 where a polynomial is zero
   pub lead-judged : (k : ℕ) → refusal 8 k ≡ leadsJudged ps 1 → refusal 8 k ≡ basisJudged ps
   unfolding basisJudged thenJudge
   lead-judged k e = ap (λ (v : Verdict). thenJudge v (apartJudged (leads ps) (leads ps) 1)) e

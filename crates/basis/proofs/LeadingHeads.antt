@@ -1,6 +1,5 @@
 -- Leading words of polynomials that lie in a package: where they stand, and what refusal 8 says of them, polynomial by polynomial.
 use mathlib.Core.Path.{_≡_, refl, ap, _∙_}
-use mathlib.Core.Logic.{_≢_}
 use mathlib.Core.List.{List, [], _∷_}
 use Prim.Native.Nat.{ℕ, zero, suc, _+_, _-_, _≤_, _<_}
 use native.Mathlib.Nat.{add-zero}
@@ -9,7 +8,6 @@ use native.Mathlib.Omega.{arith}
 use native.Mathlib.Decide.{ℕ-discrete}
 use lib.ListN.{length, getD, set, take, drop}
 use lib.Seq.{getD-take, getD-drop, getD-set-same, getD-set-other}
-use borrow.Author.Tests.{eq-eqb, ne-eqb}
 use Rattle.words.specs.Laid.{laidFrom, laidWords}
 use Rattle.algebra.specs.Groebner.{lead}
 use Rattle.overlaps.specs.Overlaps.{leads}
@@ -83,17 +81,11 @@ module _ (coefs starts lens bytes firsts : List ℕ) (base count : ℕ) (L : Bas
     unfolding leadsJudged
     leads-zero k = rw (family-next g h, poly-none coefs starts lens bytes (first g) (last g) k)
 
-    pub leads-other : first g < last g → getD coefs (first g) 0 ≢ 1
-        → refusal 8 (g + 1) ≡ leadsJudged (familyAt coefs starts lens bytes firsts (base + g) (count - g)) (g + 1)
-    unfolding leadsJudged
-    leads-other k n = rw (family-next g h, poly-some coefs starts lens bytes (first g) (last g) k within, leadsJudged, ne-eqb (getD coefs (first g) 0) 1 n)
-
-    pub leads-next : first g < last g → getD coefs (first g) 0 ≡ 1
+    pub leads-next : first g < last g
         → leadsJudged (familyAt coefs starts lens bytes firsts (base + (g + 1)) (count - (g + 1))) (g + 1 + 1)
         ≡ leadsJudged (familyAt coefs starts lens bytes firsts (base + g) (count - g)) (g + 1)
     unfolding leadsJudged
-    leads-next k n =
-        rw (family-next g h, poly-some coefs starts lens bytes (first g) (last g) k within, leadsJudged, eq-eqb (getD coefs (first g) 0) 1 n, add-one (g + 1))
+    leads-next k = rw (family-next g h, poly-some coefs starts lens bytes (first g) (last g) k within, leadsJudged, add-one (g + 1))
 
     pub filled-next : (heads headlens : List ℕ) → g < length heads → g < length headlens → first g < last g → Filled starts lens firsts base g heads headlens
         → Filled starts lens firsts base (g + 1) (set heads g (getD starts (first g) 0)) (set headlens g (getD lens (first g) 0))

@@ -31,7 +31,7 @@ pub fn judge_basis(
     while g < count {
         let a = firsts[base + g];
         let b = firsts[base + g + 1];
-        if b <= a || coefs[a] != 1 {
+        if b <= a {
             return BasisAnswer::Unsound {
                 number: 8,
                 place: g + 1,

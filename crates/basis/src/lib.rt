@@ -4,7 +4,7 @@
 pub mod basis;
 pub mod holding;
 
-// What leading coefficients and leading words are judged: refused with number and place, or sound.
+// What the polynomials of a basis and their leading words are judged: refused with number and place, or sound.
 pub enum BasisAnswer {
     Unsound { number: u32, place: usize },
     Sound,

@@ -16,7 +16,7 @@ ghost use Rattle.acceptance.specs.Check.{sumsVerdict};
 ghost use Rattle.sumlines.specs.Lines.{sumsAt};
 ghost use Rattle.sumorder.specs.Reached.{SumsStart};
 ghost use Rattle.table.specs.Table.{fieldIn, orderIn};
-ghost use Rattle.table.specs.Polynomials.{relationsIn, basisIn, BasisNonzero};
+ghost use Rattle.table.specs.Polynomials.{relationsIn, basisIn};
 ghost use Rattle.table.specs.Tabled.{Tabled};
 ghost use Rattle.packedterms.specs.Formula.{Room};
 ghost use Rattle.tablesums.specs.Leading.{HeadsIn};
@@ -37,7 +37,7 @@ pub fn check(
     w: &mut [u64; 3360],
     o: &mut [u16; 560],
 ) -> Checked
-    requires { ⌜ Tabled (now t) × HeadsIn (now t) (now heads) (now headlens) (now bytes) × BasisNonzero (now t) ⌝ }
+    requires { ⌜ Tabled (now t) × HeadsIn (now t) (now heads) (now headlens) (now bytes) ⌝ }
     requires { ⌜ SumsStart (headIn (now t)) (now bytes) from first ⌝ }
     requires { ⌜ Room (now c) (now l) (now w) (now o) ⌝ }
     ensures { λ r. ⌜

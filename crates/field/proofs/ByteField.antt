@@ -1,4 +1,4 @@
--- The laws of GF(256), and its products read from the tables.
+-- The laws of GF(256), and its products and inverses read from the tables.
 use mathlib.Core.Path.{_≡_, sym, _∙_, ap}
 use mathlib.Core.Logic.{_≢_}
 use Prim.Native.Nat.{ℕ, zero, suc, _+_, _-_, _%_, _≤_, _<_}
@@ -10,6 +10,7 @@ use Rattle.field.specs.Field.{Field, gf256}
 use Rattle.field.proofs.ByteSums.{sum-zero, sum-comm, sum-self, sum-assoc, sum-byte}
 use Rattle.field.proofs.ByteTables.{tables-rule}
 use Rattle.field.proofs.ByteProducts as Products
+use Rattle.field.proofs.Derived.{inv-unique}
 use Rattle.field.proofs.ByteProducts.{raised, raised-byte, times-byte, times-one, times-zero}
 
 lt : (a : ℕ) → a % 256 < 256
@@ -81,3 +82,27 @@ logarithm-lt a p q = tables-rule .log-lt a p q
 
 pub power-lt : (i : ℕ) → i < 255 → powerAt i < 256
 power-lt i h = rw (Products.power-is powerAt logAt tables-rule i h) (raised-byte i 1 (omega arith))
+
+pub inverse-byte : (a : ℕ) → gf256 .inv a < 256
+unfolding gf256
+inverse-byte a = power-byte 254 (a % 256)
+
+-- Inverses through the tables: b with a × b = 1 is the inverse of a.
+module _ (a : ℕ) (m : 0 < a) (p : a < 256) where
+  only-inverse : (b : ℕ) → b < 256 → gf256 .mul a b ≡ 1 → b ≡ gf256 .inv a
+  unfolding gf256
+  only-inverse b q e =
+      sym (mod-eq-of-lt q) ∙ inv-unique gf256-field a b (λ z. omega (arith, mod-eq-of-lt p)) e ∙ mod-eq-of-lt (inverse-byte a)
+
+  raised-inverse : (j : ℕ) → j + logAt a ≡ 255 → raised j 1 ≡ gf256 .inv a
+  raised-inverse j e =
+      let q = raised-byte j 1 (omega arith) in
+      only-inverse (raised j 1) q (product-of-bytes a (raised j 1) p q ∙ Products.complement-is powerAt logAt tables-rule a j m p e)
+
+  pub inverse-of-one : logAt a ≡ 0 → 1 ≡ gf256 .inv a
+  inverse-of-one z = sym (Products.whole powerAt logAt tables-rule) ∙ raised-inverse 255 (omega arith)
+
+  pub inverse-by-logarithm : {i r : ℕ} → i ≡ logAt a → 0 < i → r ≡ powerAt (255 - i) → r ≡ gf256 .inv a
+  inverse-by-logarithm {i} e h g =
+      let low = logarithm-lt a m p in
+      g ∙ Products.power-is powerAt logAt tables-rule (255 - i) (omega arith) ∙ raised-inverse (255 - i) (omega arith)

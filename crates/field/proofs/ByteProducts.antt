@@ -100,7 +100,7 @@ module _ (power log : ℕ → ℕ) (R : TablesRule power log) where
   byte-is a p q = sym (R .power-log a p q) ∙ power-is (log a) (R .log-lt a p q)
 
   -- x^255 is 1
-  whole : raised 255 1 ≡ 1
+  pub whole : raised 255 1 ≡ 1
   unfolding raised
   whole = ap timesX (sym (power-is 254 (omega arith))) ∙ sym (R .next 254 (omega arith)) ∙ R .first
 
@@ -120,6 +120,11 @@ module _ (power log : ℕ → ℕ) (R : TablesRule power log) where
   product-is a b p q r s =
       ap (byteTimes 8 a) (byte-is b r s) ∙ times-raised (log b) a q ∙ ap (raised (log b)) (byte-is a p q) ∙ raised-raised (log b) (log a) 1
       ∙ ap (λ (k : ℕ). raised k 1) (add-comm (log b) (log a))
+
+  -- where the logarithm of a and j add up to 255, a × x^j is 1
+  pub complement-is : (a j : ℕ) → 0 < a → a < 256 → j + log a ≡ 255 → byteTimes 8 a (raised j 1) ≡ 1
+  complement-is a j p q e =
+      times-raised j a q ∙ ap (raised j) (byte-is a p q) ∙ raised-raised j (log a) 1 ∙ ap (λ (k : ℕ). raised k 1) e ∙ whole
 
   pub zero-times : (b : ℕ) → b < 256 → byteTimes 8 0 b ≡ 0
   zero-times b h = go (ℕ-discrete b 0)

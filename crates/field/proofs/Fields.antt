@@ -19,7 +19,7 @@ unfolding fieldOf
 field-other p n = rw (fieldOf, ne-eqb p 256 n)
 
 -- what holds of GF(256) and of the numbers modulo p holds of the field that p means
-by-field : (P : ℕ → Operations → Type 0) → P 256 gf256 → ((p : ℕ) → P p (modular p)) → (p : ℕ) → P p (fieldOf p)
+pub by-field : (P : ℕ → Operations → Type 0) → P 256 gf256 → ((p : ℕ) → P p (modular p)) → (p : ℕ) → P p (fieldOf p)
 by-field P byte other p = go (ℕ-discrete p 256)
   where
     go : Dec (p ≡ 256) → P p (fieldOf p)

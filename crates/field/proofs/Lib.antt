@@ -12,4 +12,5 @@ pub mod ByteExamples
 pub mod Modular
 pub mod Fields
 pub mod Reduced
+pub mod Inverse
 mod Test

@@ -1,4 +1,4 @@
--- What `fieldOf p` answers at elements: modulo p, without a remainder where one subtraction does; and for 256 sums bit by bit, and the products of `gf256`.
+-- What `fieldOf p` answers at elements: modulo p, without a remainder where one subtraction does; and for 256 sums bit by bit, and the products and inverses of `gf256`.
 use mathlib.Core.Path.{_≡_, sym, _∙_, ap}
 use mathlib.Core.Logic.{_≢_}
 use Prim.Native.Nat.{ℕ, _+_, _-_, _*_, _%_, _≤_, _<_}
@@ -53,6 +53,9 @@ module _ {p : ℕ} (e : p ≡ 256) where
 
   pub byte-product : (a b : ℕ) {r : ℕ} → r ≡ gf256 .mul a b → r ≡ fieldOf p .mul a b
   byte-product a b q = q ∙ sym (ap (λ (K : Operations). K .mul a b) is-256)
+
+  pub byte-inverse : (a : ℕ) {r : ℕ} → r ≡ gf256 .inv a → r ≡ fieldOf p .inv a
+  byte-inverse a q = q ∙ sym (ap (λ (K : Operations). K .inv a) is-256)
 
 -- a product of two numbers below 65,536 fits 32 bits
 pub product-fits : (a b : ℕ) → a < 65536 → b < 65536 → a * b < 4294967296

@@ -1,5 +1,5 @@
-// GF(256): the product through a table of the powers of x and a table of logarithms.
-// specs/ByteField.antt says which field it is; proofs/ByteField.antt shows that products through the tables are
+// GF(256): product and inverse through a table of the powers of x and a table of logarithms.
+// specs/ByteField.antt says which field it is; proofs/ByteField.antt shows that what is read from the tables is
 // the field's.
 
 use crate::byte_tables::LOGARITHMS;
@@ -28,6 +28,18 @@ pub fn product(a: u32, b: u32) -> u32
     power(i - 255)
 }
 
+// The inverse of a byte other than 0: the two logarithms add up to 255, and x^255 is 1.
+pub fn inverse(a: u32) -> u32
+    requires { ⌜ (0 < a) × (a < 256) ⌝ }
+    ensures { λ r. ⌜ (r ≡ gf256 .inv a) × (r < 256) ⌝ }
+{
+    let i = logarithm(a);
+    if i == 0 {
+        return 1;
+    }
+    power(255 - i)
+}
+
 // x^i.
 fn power(i: u32) -> u32
     requires { ⌜ i < 255 ⌝ }
@@ -43,4 +55,12 @@ fn logarithm_sum(a: u32, b: u32) -> u32
 {
     let table = LOGARITHMS;
     wide(table[a as usize]) + wide(table[b as usize])
+}
+
+// The logarithm of a byte other than 0.
+fn logarithm(a: u32) -> u32
+    requires { ⌜ (0 < a) × (a < 256) ⌝ }
+    ensures { λ r. ⌜ (r ≡ logAt a) × (r < 255) ⌝ }
+{
+    wide(LOGARITHMS[a as usize])
 }

@@ -1,4 +1,4 @@
--- The first term of a multiple, added onto the term that has its word: the arrays are in written form, and the other terms are left to add.
+-- The first term of a multiple cancels a term of the formula: the formula without that term is left, and the other terms of the multiple to add.
 use mathlib.Core.Path.{_≡_, refl, sym, ap, _∙_}
 use mathlib.Core.Logic.{_≢_}
 use mathlib.Core.List.{List, [], _∷_}
@@ -6,11 +6,12 @@ use Prim.Native.Nat.{ℕ, _+_, _-_, _≤_, _<_}
 use native.Mathlib.Decide.{decLt}
 use native.Mathlib.Omega.{arith}
 use lib.ListN.{getD}
+use Rattle.field.proofs.Derived.{opposite-cancels}
 use Rattle.words.specs.Word.{Word, around}
 use Rattle.words.specs.Order.{Lt}
 use Rattle.words.proofs.Admissible.{order-refl}
 use Rattle.algebra.specs.Poly.{Term, Poly}
-use Rattle.algebra.specs.Groebner.{lead}
+use Rattle.algebra.specs.Groebner.{lead, leadCoef}
 use Rattle.algebra.specs.Written.{insert, plus}
 use Rattle.algebra.proofs.Insertion.{put-zero}
 use Rattle.working.specs.Working.{terms}
@@ -21,17 +22,15 @@ use Rattle.table.specs.Polynomials.{wordIn, termIn}
 use Rattle.table.specs.Table.{fieldIn, orderIn, coefIn}
 use Rattle.table.specs.Tabled.{Tabled}
 use Rattle.packedterms.specs.Behind.{Behind}
-use Rattle.packedterms.specs.Change.{AddedOnto}
-use Rattle.packedterms.specs.Formula.{wordAt, termAt, formula, Holds, Working}
-use Rattle.packedterms.proofs.BehindTerms.{behind-first, behind-inserted}
+use Rattle.packedterms.specs.Formula.{wordAt, termAt, formula, Working}
+use Rattle.packedterms.proofs.BehindTerms.{behind-first}
 use Rattle.packedterms.proofs.Places.{words-fall}
-use Rattle.packedterms.proofs.SameWord.{onto-holds, onto-formula}
 use Rattle.itemadding.specs.LeadPlace.{LeadPlace}
-use Rattle.itemadding.proofs.Sums.{rest, rest-next, sum-next, inserted-working, inserted-sum}
+use Rattle.itemadding.proofs.Sums.{rest, rest-next, rest-end, sum-next, plus-end}
 
-lead-first : (s : Term) (f : Poly) → lead (s ∷ f) ≡ s .word
-unfolding lead
-lead-first s f = refl
+lead-first : (s : Term) (f : Poly) → (lead (s ∷ f) ≡ s .word) × (leadCoef (s ∷ f) ≡ s .coef)
+unfolding lead leadCoef
+lead-first s f = (refl, refl)
 
 -- Terms that are not zero have a first.
 pub has-term : (F : ℕ → Term) (a b : ℕ) → terms F a (b - a) ≢ [] → a < b
@@ -41,25 +40,25 @@ has-term F a b e = go (decLt a b)
     go (yes q) = q
     go (no q) = absurd (e (terms-end F a b (omega arith)))
 
-module _ (t : List ℕ) (tabled : Tabled t) (a b : ℕ) (left right : Word) (c l w o : List ℕ) (n k : ℕ) (held : Working t c l w o n) (h : k < n)
-    (at : LeadPlace (terms (termIn t) a (b - a)) left right (wordAt t l w (getD o k 0))) where
+module _ (t : List ℕ) (tabled : Tabled t) (a b : ℕ) (x : ℕ) (left right : Word) (c l w o : List ℕ) (n k : ℕ) (held : Working t c l w o n) (h : k < n)
+    (at : LeadPlace (fieldIn t) x left right (terms (termIn t) a (b - a)) (termAt t c l w o k)) where
   abbrev v : Word
   v = wordAt t l w (getD o k 0)
 
   some : a < b
   some = has-term (termIn t) a b (at .some)
 
+  first : (lead (terms (termIn t) a (b - a)) ≡ wordIn t a) × (leadCoef (terms (termIn t) a (b - a)) ≡ coefIn t a)
+  first = rw (terms-next (termIn t) a b some) (lead-first (termIn t a) (terms (termIn t) (a + 1) (b - (a + 1))))
+
   word-is : v ≡ around left right (wordIn t a)
-  word-is =
-      sym (at .word)
-      ∙ ap (around left right) (ap lead (terms-next (termIn t) a b some) ∙ lead-first (termIn t a) (terms (termIn t) (a + 1) (b - (a + 1))))
+  word-is = sym (at .word) ∙ ap (around left right) (first .0)
+
+  coef-is : fieldIn t .mul x (coefIn t a) ≡ getD c (getD o k 0) 0
+  coef-is = ap (fieldIn t .mul x) (sym (first .1)) ∙ at .coef
 
   falling : (j : ℕ) → j < k → Lt (orderIn t) v (wordAt t l w (getD o j 0))
   falling j z = words-fall t c l w o n held j k z h
-
-  onto-term : (y : ℕ) → insert (fieldIn t) (orderIn t) (single y v) (formula t c l w o n) ≡ onto (fieldIn t) (termAt t c l w o) n k y
-  onto-term y =
-      insert-equal (fieldIn t) (orderIn t) (single y v) (termAt t c l w o) n k falling h (order-refl (tabled .suits .admissible) v)
 
   -- a word that is less than the product of the first term is behind term k
   pub second-behind : (u : Word) → Lt (orderIn t) (around left right u) (around left right (wordIn t a))
@@ -70,38 +69,26 @@ module _ (t : List ℕ) (tabled : Tabled t) (a b : ℕ) (left right : Word) (c l
       go j z (yes g) = tabled .suits .admissible .trans (around left right u) v (wordAt t l w (getD o j 0)) (rw word-is d) (falling j g)
       go j z (no g) = let e : j ≡ k = omega arith in rw (e, word-is) d
 
-  -- the first term's product cancels term k
-  pub cancelled-sum : (x y : ℕ) → y ≡ fieldIn t .mul x (coefIn t a) → fieldIn t .add y (getD c (getD o k 0) 0) ≡ 0
-      → plus (fieldIn t) (orderIn t) (without (termAt t c l w o) n k) (rest t x left right b (a + 1))
-      ≡ plus (fieldIn t) (orderIn t) (formula t c l w o n) (rest t x left right b a)
-  cancelled-sum x y q z =
-      let none = tabled .field .red-add y (getD c (getD o k 0) 0) ∙ z in
+  -- the first term taken away
+  abbrev y : ℕ
+  y = fieldIn t .mul (fieldIn t .neg x) (coefIn t a)
+
+  left-out : without (termAt t c l w o) n k ≡ insert (fieldIn t) (orderIn t) (single y v) (formula t c l w o n)
+  left-out =
+      let none = tabled .field .red-add y (getD c (getD o k 0) 0) ∙ opposite-cancels (tabled .field) x (coefIn t a) (getD c (getD o k 0) 0) coef-is in
       let out : without (termAt t c l w o) n k ≡ onto (fieldIn t) (termAt t c l w o) n k y = rw (put-zero (fieldIn t) _ v (terms (termAt t c l w o) (k + 1) (n - (k + 1))) none) in
-      sum-next (fieldIn t) (orderIn t) (formula t c l w o n) (single y v) (without (termAt t c l w o) n k) (rest t x left right b a)
-      (rest t x left right b (a + 1)) (out ∙ sym (onto-term y)) (rest-next t x left right b a y v some q word-is)
+      out ∙ sym (insert-equal (fieldIn t) (orderIn t) (single y v) (termAt t c l w o) n k falling h (order-refl (tabled .suits .admissible) v))
 
-  module _ (x y : ℕ) (q : y ≡ fieldIn t .mul x (coefIn t a)) (c' o' : List ℕ) (r : ℕ)
-      (e : AddedOnto (fieldIn t .add y (getD c (getD o k 0) 0)) c o n k c' o' r) where
-    holds : (r ≤ n) × Holds t c' l w o' r
-    holds = onto-holds t (tabled .field) c l w o n k y (held .holds) h c' o' r e
+  -- what is left, with the other terms
+  pub cancelled-sum : plus (fieldIn t) (orderIn t) (without (termAt t c l w o) n k) (rest t (fieldIn t .neg x) left right b (a + 1))
+      ≡ plus (fieldIn t) (orderIn t) (formula t c l w o n) (rest t (fieldIn t .neg x) left right b a)
+  cancelled-sum =
+      sum-next (fieldIn t) (orderIn t) (formula t c l w o n) (single y v) (without (termAt t c l w o) n k) (rest t (fieldIn t .neg x) left right b a)
+      (rest t (fieldIn t .neg x) left right b (a + 1)) left-out (rest-next t (fieldIn t .neg x) left right b a y v some refl word-is)
 
-    inserted : formula t c' l w o' r ≡ insert (fieldIn t) (orderIn t) (single y v) (formula t c l w o n)
-    inserted =
-        onto-formula t (tabled .field) c l w o n k y (held .holds) h c' o' r e ∙ sym (onto-term y)
-
-    pub first-less : r ≤ n
-    first-less = holds .0
-
-    pub first-behind : Behind (orderIn t) (around left right (wordIn t a)) k (formula t c' l w o' r)
-    first-behind =
-        let first = behind-first (orderIn t) v (termAt t c l w o) k n (omega arith) falling in
-        rw (← word-is, inserted) (behind-inserted (fieldIn t) (orderIn t) y v k (formula t c l w o n) first)
-
-    pub first-working : Working t c' l w o' r
-    first-working = inserted-working t tabled c l w o n held c' l w o' r (single y v) (holds .1) inserted
-
-    pub first-sum : plus (fieldIn t) (orderIn t) (formula t c' l w o' r) (rest t x left right b (a + 1))
-        ≡ plus (fieldIn t) (orderIn t) (formula t c l w o n) (rest t x left right b a)
-    first-sum =
-        inserted-sum t tabled c l w o n held c' l w o' r (single y v) (holds .1) inserted (rest t x left right b a) (rest t x left right b (a + 1))
-        (rest-next t x left right b a y v some q word-is)
+  -- where there are none, that is all
+  pub cancelled-all : b ≤ a + 1
+      → without (termAt t c l w o) n k ≡ plus (fieldIn t) (orderIn t) (formula t c l w o n) (rest t (fieldIn t .neg x) left right b a)
+  cancelled-all q =
+      sym (ap (plus (fieldIn t) (orderIn t) (without (termAt t c l w o) n k)) (rest-end t (fieldIn t .neg x) left right b (a + 1) q) ∙ plus-end (fieldIn t) (orderIn t) _)
+      ∙ cancelled-sum

@@ -7,6 +7,8 @@ use lib.ListN.{length, drop}
 use Rattle.words.specs.Word.{Word, around}
 use Rattle.words.specs.Order.{Order}
 use Rattle.field.specs.Field.{Operations, Field, fieldOf}
+use Rattle.field.proofs.Derived.{one-mul}
+use Rattle.field.proofs.Fields.{element-of}
 use Rattle.algebra.specs.Poly.{Term, Poly, scale, shift}
 use Rattle.algebra.specs.Written.{insert, plus}
 use Rattle.algebra.proofs.Insertion.{insert-written}
@@ -14,7 +16,7 @@ use Rattle.working.specs.Working.{terms}
 use Rattle.working.specs.Change.{single, without}
 use Rattle.working.proofs.Terms.{terms-next, terms-end}
 use Rattle.table.specs.Polynomials.{wordIn, termIn}
-use Rattle.table.specs.Table.{primeIn, fieldIn, orderIn, coefIn}
+use Rattle.table.specs.Table.{primeIn, fieldIn, orderIn, termsIn, coefIn}
 use Rattle.table.specs.Tabled.{Tabled}
 use Rattle.packedterms.specs.Formula.{termAt, formula, Holds, Working}
 use Rattle.packedterms.proofs.LeftOut.{without-written}
@@ -28,7 +30,7 @@ plus-next : (K : Operations) (O : Order) (f : Poly) (s : Term) (g : Poly) → pl
 unfolding plus
 plus-next K O f s g = refl
 
-plus-end : (K : Operations) (O : Order) (f : Poly) → plus K O f [] ≡ f
+pub plus-end : (K : Operations) (O : Order) (f : Poly) → plus K O f [] ≡ f
 unfolding plus
 plus-end K O f = refl
 
@@ -39,6 +41,15 @@ sum-next K O d s f r r' e q = ap (λ (g : Poly). plus K O g r') e ∙ sym (plus-
 -- The last term of what is left was inserted.
 pub sum-end : (K : Operations) (O : Order) (d : Poly) (s : Term) (f r r' : Poly) → f ≡ insert K O s d → r ≡ s ∷ r' → r' ≡ [] → f ≡ plus K O d r
 sum-end K O d s f r r' e q z = sym (ap (plus K O f) z ∙ plus-end K O f) ∙ sum-next K O d s f r r' e q
+
+-- A coefficient times x, as it is computed: p is the field's number, c the coefficient.
+pub times-coef : (t : List ℕ) (j p x c z : ℕ) → p ≡ primeIn t → c ≡ coefIn t j → z ≡ fieldOf p .mul x c → z ≡ fieldIn t .mul x (coefIn t j)
+times-coef t j p x c z prime coef product = product ∙ rw (coef, prime)
+
+-- The same where x is 1: it is the coefficient, an element.
+pub times-one : (t : List ℕ) → Tabled t → (j x c : ℕ) → j < termsIn t → x ≡ 1 → c ≡ coefIn t j → c ≡ fieldIn t .mul x (coefIn t j)
+times-one t T j x c h one coef =
+    coef ∙ sym (rw one (one-mul (T .field) (coefIn t j) ∙ T .field .red-elem (coefIn t j) (element-of (primeIn t) (T .small j h))))
 
 -- The coefficient of a term, times the opposite of x, as it is computed: p is the field's number, y the opposite, c the coefficient.
 pub opposite-times : (t : List ℕ) (j p x y c z : ℕ) → p ≡ primeIn t → y ≡ fieldOf p .neg x → c ≡ coefIn t j → z ≡ fieldOf p .mul y c

@@ -1,29 +1,25 @@
-// A multiple taken away where the term is known that has the word of its leading term: what a step does.
+// A multiple taken away whose leading term is a term of the formula: what a step does.
 
-use crate::cancelling::cancels;
-use crate::cancelling::opposite_coef;
 use crate::replacing::replace_item;
-use crate::taking::take_item;
-use packedterms::term::add_onto;
 use table::Table;
 use table::numbers::first_in;
+use working::entries::rotate_left;
 ghost use mathlib.Core.Path.{_≡_};
 ghost use Prim.Native.Nat.{suc, _+_, _≤_, _<_};
-ghost use lib.ListN.{length, getD};
+ghost use lib.ListN.{length};
 ghost use Rattle.algebra.specs.Poly.{scale, shift};
 ghost use Rattle.algebra.specs.Written.{plus};
 ghost use Rattle.table.specs.Polynomials.{polynomialIn};
 ghost use Rattle.table.specs.Table.{primeIn, fieldIn, orderIn, itemsIn, firstIn};
 ghost use Rattle.table.specs.Tabled.{Tabled};
 ghost use Rattle.table.specs.Words.{wordOf, Sixfold};
-ghost use Rattle.packedterms.specs.Formula.{wordAt, formula, Working};
+ghost use Rattle.packedterms.specs.Formula.{termAt, formula, Working};
 ghost use Rattle.itemadding.specs.Fits.{Fits};
 ghost use Rattle.itemadding.specs.LeadPlace.{LeadPlace};
 
-// Takes x × left × polynomial × right away from the formula of n terms as `take_item` does, where term k has the word left × leading word × right:
-// the leading term is taken from term k without a search, and the others are searched for from there on. Where it cancels term k, the next term takes
-// its place.
-pub fn take_onto_item(
+// Takes x × left × polynomial × right away from the formula of n terms as `take_item` does, where x × left × leading term × right is term k: the two
+// cancel each other. The next term takes the place of term k, and the others are searched for from there on.
+pub fn cancel_term(
     t: &Table,
     x: u32,
     left: &[u64; 6],
@@ -46,8 +42,8 @@ pub fn take_onto_item(
     requires { ⌜ Working (now t) (now c) (now l) (now w) (now o) n ⌝ }
     requires { ⌜
         (k < n)
-        × LeadPlace (polynomialIn (now t) item) (wordOf (now t) a (now left)) (wordOf (now t) b (now right))
-        (wordAt (now t) (now l) (now w) (getD (now o) k 0))
+        × LeadPlace (fieldIn (now t)) x (wordOf (now t) a (now left)) (wordOf (now t) b (now right)) (polynomialIn (now t) item)
+        (termAt (now t) (now c) (now l) (now w) (now o) k)
         ⌝ }
     ensures { λ r. ⌜ (r ≤ n + 48) × (length (now (buf .exit)) ≡ 9) ⌝ }
     ensures { λ r. ⌜ Working (now (t .entry)) (now (c .exit)) (now (l .exit)) (now (w .exit)) (now (o .exit)) r ⌝ }
@@ -61,12 +57,9 @@ pub fn take_onto_item(
 {
     let first = first_in(t, item);
     let end = first_in(t, item + 1);
-    let y = opposite_coef(t, x, first);
     if first + 1 < end {
-        if cancels(t, y, c, o, k) {
-            return replace_item(t, x, left, a, item, right, b, c, l, w, o, n, k, buf);
-        }
+        return replace_item(t, x, left, a, item, right, b, c, l, w, o, n, k, buf);
     }
-    let r = add_onto(t, y, c, o, n, k);
-    take_item(t, x, left, a, item, 1, right, b, c, l, w, o, r, k, buf)
+    rotate_left(o, k, n - 1);
+    n - 1
 }

@@ -3,7 +3,7 @@
 // which is lent.
 
 pub mod building;
-pub mod cancelling;
+pub mod coefficients;
 pub mod leading_term;
 pub mod placing;
 pub mod replacing;

@@ -1,7 +1,7 @@
 // A multiple taken away whose leading term cancels a term of the formula.
 
 use crate::building::build;
-use crate::cancelling::opposite_coef;
+use crate::coefficients::opposite_coef;
 use crate::taking::take_item;
 use packedterms::replacing::replace_term;
 use table::Table;

@@ -1,7 +1,7 @@
 // A multiple taken away from the formula.
 
 use crate::building::build;
-use crate::cancelling::opposite_coef;
+use crate::coefficients::opposite_coef;
 use packedterms::term::add_term;
 use table::Table;
 use table::numbers::first_in;

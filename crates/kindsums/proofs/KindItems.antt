@@ -9,11 +9,12 @@ use lib.ListN.{length}
 use Rattle.lists.specs.All.{All}
 use Rattle.text.specs.Pieces.{part}
 use Rattle.words.specs.Word.{Word}
-use Rattle.algebra.specs.Poly.{Poly, shift}
+use Rattle.algebra.specs.Poly.{Poly, scale, shift}
 use Rattle.algebra.specs.Ideal.{family}
 use Rattle.algebra.specs.Steps.{takeAway}
 use Rattle.algebra.specs.Written.{Written}
 use Rattle.algebra.proofs.Lines.{shift-nil}
+use Rattle.algebra.proofs.WrittenForm.{scale-one}
 use Rattle.working.proofs.Families.{family-written}
 use Rattle.package.specs.Names.{sumB}
 use Rattle.package.specs.Sums.{ofs}
@@ -90,12 +91,13 @@ module _ (t : List ℕ) (T : Tabled t) where
           })
 
 module _ {t : List ℕ} {side : Side} {most : ℕ} {k : KindNumbers} (i : KindItems t side most k) where
-  -- An item placed between two empty words is the target.
-  pub target-placed : (item : ℕ) → 1 ≤ item → item ≤ k .count → (u v : Word) → u ≡ [] → v ≡ [] → (f : Poly)
-      → f ≡ shift u v (polynomialIn t (k .targets + item)) → f ≡ family (side .targets) item
-  target-placed item some last u v eu ev f e =
-      e ∙ ap₂ (λ (x y : Word). shift x y (polynomialIn t (k .targets + item))) eu ev
-      ∙ shift-nil (polynomialIn t (k .targets + item)) ∙ sym (i .target item some last)
+  -- An item placed once between two empty words is the target.
+  pub target-placed : Tabled t → (item : ℕ) → 1 ≤ item → item ≤ k .count → (u v : Word) → u ≡ [] → v ≡ [] → (f : Poly)
+      → f ≡ scale (fieldIn t) 1 (shift u v (polynomialIn t (k .targets + item))) → f ≡ family (side .targets) item
+  target-placed T item some last u v eu ev f e =
+      e ∙ ap₂ (λ (x y : Word). scale (fieldIn t) 1 (shift x y (polynomialIn t (k .targets + item)))) eu ev
+      ∙ ap (scale (fieldIn t) 1) (shift-nil (polynomialIn t (k .targets + item)) ∙ sym (i .target item some last))
+      ∙ scale-one (T .field) (T .suits .admissible) (family-written (fieldIn t) (orderIn t) (side .targets) (i .written) item)
 
   -- It is in written form, so that arrays which hold it can be added to.
   pub target-working : (item : ℕ) {c l w o : List ℕ} {n : ℕ} → Holds t c l w o n → formula t c l w o n ≡ family (side .targets) item

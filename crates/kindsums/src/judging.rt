@@ -65,7 +65,7 @@ pub fn judge_sums(
     'items: while g < k.count {
         let item = g + 1;
         let target = k.targets + item;
-        let mut n = place_item(t, &none, 0, target, &none, 0, c, l, w, o, &mut buf);
+        let mut n = place_item(t, 1, &none, 0, target, &none, 0, c, l, w, o, &mut buf);
         while is_item(s, kind, item) {
             let z = pack_sides(t, bytes, s, &mut left, &mut right);
             let x = s.coef;

@@ -1,35 +1,31 @@
--- A basis without a zero polynomial: each polynomial leads, and the leading words that lie in the bytes have at most 24 letters.
+-- Each polynomial of a table's basis leads, and the leading words that lie in the bytes have at most 24 letters.
 use mathlib.Core.Path.{_≡_, sym, ap, _∙_}
 use mathlib.Core.List.{List, []}
 use Prim.Native.Nat.{ℕ, zero, suc, _+_, _%_, _≤_}
 use native.Mathlib.Omega.{arith}
 use lib.ListN.{length}
-use Rattle.lists.proofs.Every.{all-at}
 use Rattle.words.specs.Laid.{laidWord}
 use Rattle.words.proofs.LaidWords.{laid-word-length}
-use Rattle.algebra.specs.Ideal.{family}
 use Rattle.overlaps.specs.Position.{AtMost24}
 use Rattle.table.specs.Table.{gensIn, basisCountIn, firstIn, sizeIn}
 use Rattle.table.specs.Tabled.{Tabled}
-use Rattle.table.specs.Polynomials.{BasisNonzero}
-use Rattle.table.proofs.Families.{polynomials-count}
+use Rattle.table.proofs.Inverses.{basis-some}
 use Rattle.table.proofs.LeadingTerms.{lead-term}
 use Rattle.tablesums.specs.Leading.{Leads, HeadsIn}
 use Rattle.tablesums.proofs.LeadingWords.{lead-laid}
 
-pub basis-leads : (t : List ℕ) → BasisNonzero t → (g : ℕ) → 1 ≤ g → g ≤ basisCountIn t → Leads t g
-unfolding family
-basis-leads t h zero some most = absurd (omega arith)
-basis-leads t h (suc k) some most = record {
+pub basis-leads : (t : List ℕ) → Tabled t → (g : ℕ) → 1 ≤ g → g ≤ basisCountIn t → Leads t g
+basis-leads t T zero some most = absurd (omega arith)
+basis-leads t T (suc k) some most = record {
   some = some;
   most = most;
-  nonzero = all-at h [] k (omega (arith, polynomials-count t (gensIn t + 1) (basisCountIn t)));
+  nonzero = basis-some t T k (omega arith);
 }
 
-pub heads-short : {t heads headlens bytes : List ℕ} → Tabled t → BasisNonzero t → HeadsIn t heads headlens bytes
+pub heads-short : {t heads headlens bytes : List ℕ} → Tabled t → HeadsIn t heads headlens bytes
     → AtMost24 headlens (basisCountIn t)
-heads-short {t} {heads} {headlens} {bytes} T h H g l =
-    let L = lead-term t T (suc g) (basis-leads t h (suc g) (omega arith) (omega arith) .nonzero) in
+heads-short {t} {heads} {headlens} {bytes} T H g l =
+    let L = lead-term t T (suc g) (basis-some t T g (omega arith)) in
     let short = T .short (firstIn t (gensIn t + suc g)) (L .inside) in
     let e = laid-word-length heads headlens bytes (basisCountIn t) (H .laid) g l in
     let size : length (laidWord heads headlens bytes g) ≡ sizeIn t (firstIn t (gensIn t + suc g)) % 256 =

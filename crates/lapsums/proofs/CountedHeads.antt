@@ -10,7 +10,7 @@ use Rattle.overlaps.specs.Position.{AtMost24, overlapsAt}
 use Rattle.overlapwords.specs.declared.OverlapAt.{OverlapAt}
 use Rattle.overlapwords.specs.OverlapPlaces.{Overlapped, seenOverlaps}
 use Rattle.table.specs.Table.{basisCountIn}
-use Rattle.table.specs.Polynomials.{basisIn, BasisNonzero}
+use Rattle.table.specs.Polynomials.{basisIn}
 use Rattle.table.specs.Tabled.{Tabled}
 use Rattle.tablesums.specs.Leading.{HeadsIn}
 use Rattle.lapsums.proofs.BasisLeads.{heads-short}
@@ -19,8 +19,8 @@ module _ {t heads headlens bytes : List ℕ} (H : HeadsIn t heads headlens bytes
   pub count-laid : Laid heads headlens bytes count
   count-laid = rw e (H .laid)
 
-  pub count-short : Tabled t → BasisNonzero t → AtMost24 headlens count
-  count-short T N = rw e (heads-short T N H)
+  pub count-short : Tabled t → AtMost24 headlens count
+  count-short T = rw e (heads-short T H)
 
   pub count-lapped : (f : OverlapAt) → Overlapped headlens count f → Overlapped headlens (basisCountIn t) f
   count-lapped f v = rw e at v

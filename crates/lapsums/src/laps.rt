@@ -18,7 +18,7 @@ ghost use Rattle.sumlines.specs.Lines.{sumsAt};
 ghost use Rattle.basis.specs.Told.{told};
 ghost use Rattle.sumorder.specs.Reached.{Reached};
 ghost use Rattle.sumorder.specs.Row.{rowVerdict};
-ghost use Rattle.table.specs.Polynomials.{basisIn, BasisNonzero};
+ghost use Rattle.table.specs.Polynomials.{basisIn};
 ghost use Rattle.table.specs.Table.{fieldIn, orderIn};
 ghost use Rattle.table.specs.Tabled.{Tabled};
 ghost use Rattle.packedterms.specs.Formula.{Room};
@@ -35,7 +35,7 @@ fn first_above(
     at: usize,
     line: usize,
 ) -> usize
-    requires { ⌜ Tabled (now t) × HeadsIn (now t) (now heads) (now headlens) (now bytes) × BasisNonzero (now t) ⌝ }
+    requires { ⌜ Tabled (now t) × HeadsIn (now t) (now heads) (now headlens) (now bytes) ⌝ }
     requires { ⌜ Reached (headIn (now t)) sumO 1 (now bytes) at line ⌝ }
     ensures { λ r. ⌜
         told 15 r ≡ itemsJudged (length (overlaps (leads (basisIn (now (t .entry)))))) (sumsAt (now (bytes .entry)) at line)
@@ -61,7 +61,7 @@ pub fn judge_laps(
     w: &mut [u64; 3360],
     o: &mut [u16; 560],
 ) -> Checked
-    requires { ⌜ Tabled (now t) × HeadsIn (now t) (now heads) (now headlens) (now bytes) × BasisNonzero (now t) ⌝ }
+    requires { ⌜ Tabled (now t) × HeadsIn (now t) (now heads) (now headlens) (now bytes) ⌝ }
     requires { ⌜ Reached (headIn (now t)) sumO 1 (now bytes) at line ⌝ }
     requires { ⌜ Arranged (now o) × Room (now c) (now l) (now w) (now o) ⌝ }
     ensures { λ r. ⌜

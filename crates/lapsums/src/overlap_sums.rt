@@ -22,7 +22,7 @@ ghost use Rattle.overlaps.specs.Overlaps.{leads, overlaps};
 ghost use Rattle.acceptance.specs.Check.{overlapsJudged};
 ghost use Rattle.sumlines.specs.Lines.{sumsAt};
 ghost use Rattle.sumorder.specs.Reached.{Reached};
-ghost use Rattle.table.specs.Polynomials.{basisIn, BasisNonzero};
+ghost use Rattle.table.specs.Polynomials.{basisIn};
 ghost use Rattle.table.specs.Table.{fieldIn, orderIn};
 ghost use Rattle.table.specs.Tabled.{Tabled};
 ghost use Rattle.packedterms.specs.Formula.{Room};
@@ -45,7 +45,7 @@ pub fn judge_overlaps(
     w: &mut [u64; 3360],
     o: &mut [u16; 560],
 ) -> LapsAnswer
-    requires { ⌜ Tabled (now t) × HeadsIn (now t) (now heads) (now headlens) (now bytes) × BasisNonzero (now t) ⌝ }
+    requires { ⌜ Tabled (now t) × HeadsIn (now t) (now heads) (now headlens) (now bytes) ⌝ }
     requires { ⌜ Reached (headIn (now t)) sumO 1 (now bytes) from first ⌝ }
     requires { ⌜ Arranged (now o) × Room (now c) (now l) (now w) (now o) ⌝ }
     ensures { λ r. ⌜

@@ -9,7 +9,8 @@ use Rattle.algebra.specs.Groebner.{lead}
 use Rattle.algebra.specs.Spot.{spot}
 use Rattle.working.specs.Working.{terms}
 use Rattle.table.specs.Table.{gensIn, basisCountIn, firstIn, letterIn}
-use Rattle.table.specs.Polynomials.{polynomialIn, polynomialsIn, basisIn, BasisNonzero}
+use Rattle.table.specs.Polynomials.{polynomialIn, polynomialsIn, basisIn}
+use Rattle.table.specs.Tabled.{Tabled}
 use Rattle.leads.specs.LeadCodes.{codesIn, leadCodesFrom, leadCodesIn}
 use Rattle.leads.specs.SpotOfWords.{spotOfWords}
 use Rattle.leads.proofs.TableLeads.{item-begins}
@@ -32,10 +33,10 @@ module _ (t : List ℕ) where
   from-leads j (suc n) h =
       ap₂ _∷_ (item-leads j (h j (omega arith) (omega arith))) (from-leads (suc j) n (λ i a b. h i (omega arith) (omega arith)))
 
-  module _ (l : BasisNonzero t) where
+  module _ (h : Tabled t) where
     -- the leading codes, in letters, are the leading words of the basis
     pub lead-codes-in-letters : map (map (letterIn t)) (leadCodesIn t) ≡ map lead (basisIn t)
-    lead-codes-in-letters = from-leads (gensIn t + 1) (basisCountIn t) (λ i a b. item-begins t l i (omega arith) (omega arith))
+    lead-codes-in-letters = from-leads (gensIn t + 1) (basisCountIn t) (λ i a b. item-begins t h i (omega arith) (omega arith))
 
     -- Where no two codes that have P stand for one letter, and the words have such codes alone, the spot of the leading codes in a word of codes is
     -- the spot of the basis in the word of letters.
@@ -44,4 +45,4 @@ module _ (t : List ℕ) where
     spot-of-table P own p w q =
         sym (spot-in-letters P (letterIn t) own (leadCodesIn t) w p q)
         ∙ ap (λ (ls : List Word). spotOfWords ls (map (letterIn t) w)) lead-codes-in-letters
-        ∙ spot-of-leads (basisIn t) l (map (letterIn t) w)
+        ∙ spot-of-leads (basisIn t) (h .nonzero) (map (letterIn t) w)

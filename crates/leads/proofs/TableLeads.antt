@@ -12,7 +12,7 @@ use Rattle.working.specs.Working.{terms}
 use Rattle.packedwords.specs.Packed.{Codes, Nonzero, unpacked}
 use Rattle.packedwords.proofs.Packing.{unpacked-length, unpacked-codes}
 use Rattle.table.specs.Table.{gensIn, basisCountIn, termsIn, itemsIn, firstIn, sizeIn, blocksIn}
-use Rattle.table.specs.Polynomials.{termIn, polynomialIn, BasisNonzero}
+use Rattle.table.specs.Polynomials.{termIn, polynomialIn}
 use Rattle.table.specs.Tabled.{Tabled}
 use Rattle.table.proofs.Families.{polynomials-count, family-basis}
 use Rattle.leads.specs.CodeIndex.{CodeIndexable}
@@ -32,8 +32,8 @@ module _ (t : List ℕ) where
       let e : suc j + g ≡ j + suc g = omega arith in
       lead-codes-at (suc j) n g (omega arith) ∙ ap (λ (i : ℕ). codesIn t (firstIn t i)) e
 
-  -- Where no polynomial of the basis is zero, each has a term.
-  pub item-begins : BasisNonzero t → (j : ℕ) → gensIn t < j → j ≤ itemsIn t → firstIn t j < firstIn t (suc j)
+  -- No polynomial of the basis is zero, so each has a term.
+  pub item-begins : Tabled t → (j : ℕ) → gensIn t < j → j ≤ itemsIn t → firstIn t j < firstIn t (suc j)
   unfolding family terms
   item-begins z j lo hi = go (decLt (firstIn t j) (firstIn t (suc j)))
     where
@@ -47,7 +47,7 @@ module _ (t : List ℕ) where
           let e : gensIn t + suc k ≡ j = omega arith in
           let none : firstIn t (suc j) - firstIn t j ≡ 0 = omega arith in
           let empty : polynomialIn t j ≡ [] = ap (terms (termIn t) (firstIn t j)) none in
-          absurd (all-at z [] k (omega arith) (family-basis t k (omega arith) ∙ ap (polynomialIn t) e ∙ empty))
+          absurd (all-at (z .nonzero) [] k (omega arith) (family-basis t k (omega arith) ∙ ap (polynomialIn t) e ∙ empty))
 
   -- leading word g, as it is read: base is the item of the first, i the term, s its size
   module _ (g base i s : ℕ) (b : base ≡ gensIn t + 1) (e : i ≡ firstIn t (base + g)) where
@@ -58,15 +58,15 @@ module _ (t : List ℕ) where
     lead-read f h =
         lead-codes-at (gensIn t + 1) (basisCountIn t) g h ∙ ap (codesIn t) term-read ∙ ap (λ (z : ℕ). unpacked (z % 256) (blocksIn t i)) (sym f)
 
-    pub term-inside : Tabled t → BasisNonzero t → g < basisCountIn t → i < termsIn t
-    term-inside h l p =
+    pub term-inside : Tabled t → g < basisCountIn t → i < termsIn t
+    term-inside h p =
         let j = gensIn t + 1 + g in
-        let q = item-begins l j (omega arith) (omega arith) in
+        let q = item-begins h j (omega arith) (omega arith) in
         let r = h .most j (omega arith) (omega arith) in
         let u = term-read in
         omega arith
 
-  module _ (h : Tabled t) (l : BasisNonzero t) where
+  module _ (h : Tabled t) where
     pub leads-indexable : CodeIndexable (leadCodesIn t)
     leads-indexable =
         let n = lead-codes-length (gensIn t + 1) (basisCountIn t) in
@@ -81,7 +81,7 @@ module _ (t : List ℕ) where
         short g p =
             let i = firstIn t (gensIn t + 1 + g) in
             let e = ap length (lead-codes-at (gensIn t + 1) (basisCountIn t) g p) ∙ unpacked-length (sizeIn t i % 256) (blocksIn t i) in
-            let s = h .short i (term-inside g (gensIn t + 1) i 0 refl refl h l p) in
+            let s = h .short i (term-inside g (gensIn t + 1) i 0 refl refl h p) in
             omega arith
 
         codes : (g : ℕ) → g < basisCountIn t → Codes (getD (leadCodesIn t) g [])
@@ -92,4 +92,4 @@ module _ (t : List ℕ) where
         nonzero : (g : ℕ) → g < basisCountIn t → Nonzero (getD (leadCodesIn t) g [])
         nonzero g p =
             let i = firstIn t (gensIn t + 1 + g) in
-            rw (lead-codes-at (gensIn t + 1) (basisCountIn t) g p) (h .coded i (term-inside g (gensIn t + 1) i 0 refl refl h l p))
+            rw (lead-codes-at (gensIn t + 1) (basisCountIn t) g p) (h .coded i (term-inside g (gensIn t + 1) i 0 refl refl h p))

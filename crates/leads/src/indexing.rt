@@ -13,7 +13,6 @@ ghost use lib.ListN.{length};
 ghost use Rattle.words.specs.Word.{Word};
 ghost use Rattle.packedwords.specs.Packed.{unpacked};
 ghost use Rattle.table.specs.Table.{blocksIn};
-ghost use Rattle.table.specs.Polynomials.{BasisNonzero};
 ghost use Rattle.table.specs.Tabled.{Tabled};
 ghost use Rattle.leads.specs.CodeIndex.{indexSize, CodeBlank, CodeIndexed, CodeRowsDone, PairsDone};
 ghost use Rattle.leads.specs.LeadCodes.{leadCodesIn};
@@ -68,7 +67,6 @@ fn mark_pairs(t: &Table, i: usize, n: usize, index: &mut [u64; 832])
 // The index of the leading words of the table's basis.
 pub fn index_leads(t: &Table, index: &mut [u64; 832])
     requires { ⌜ Tabled (now t) ⌝ }
-    requires { ⌜ BasisNonzero (now t) ⌝ }
     requires { ⌜ CodeBlank (now index) ⌝ }
     ensures { λ _. ⌜ CodeIndexed (leadCodesIn (now (t .entry))) (now (index .exit)) ⌝ }
 {

@@ -2,6 +2,7 @@
 -- functions are proved by.
 pub mod Listed
 pub mod Certification
+pub mod LeadingOne
 pub mod Positions
 pub mod PassedOver
 pub mod Searching

@@ -11,7 +11,7 @@ use Rattle.words.specs.Word.{Word}
 use Rattle.algebra.specs.Poly.{Poly, shift, sub}
 use Rattle.lists.specs.Same.{same}
 use Rattle.algebra.specs.Ideal.{Family}
-use Rattle.algebra.specs.Groebner.{lead}
+use Rattle.algebra.specs.Groebner.{lead, monic}
 
 -- An overlap is (first, second, shared), with the numbers of two polynomials, which may be the same.
 pub record Overlap : Type 0 where
@@ -92,10 +92,11 @@ unfoldable pub overlapWord : Family → Overlap → Word
 unfolding lead
 overlapWord G o = overlapJoined (lead (G (o .first))) (lead (G (o .second))) (o .shared)
 
--- Difference: first polynomial × that rest, minus (the first leading word without its shared end) × second polynomial.
+-- Difference: first polynomial × that rest, minus (the first leading word without its shared end) × second polynomial, each of the two divided by its
+-- own leading coefficient (document 02, P4; source document 002, definition 3.5.2).
 unfoldable pub difference : Operations → Family → Overlap → Poly
-unfolding lead shift sub
+unfolding lead shift sub monic
 difference K G o =
     sub K
-    (shift [] (drop (o .shared) (lead (G (o .second)))) (G (o .first)))
-    (shift (take (length (lead (G (o .first))) - o .shared) (lead (G (o .first)))) [] (G (o .second)))
+    (shift [] (drop (o .shared) (lead (G (o .second)))) (monic K (G (o .first))))
+    (shift (take (length (lead (G (o .first))) - o .shared) (lead (G (o .first)))) [] (monic K (G (o .second))))

@@ -9,6 +9,7 @@ use Rattle.algebra.specs.Spot.{spot, found, reducible, target}
 use Rattle.algebra.specs.Steps.{stepped}
 use Rattle.working.specs.Change.{single}
 use Rattle.working.proofs.Terms.{terms-length, terms-at}
+use Rattle.leads.specs.CodeIndex.{CodeIndexed}
 use Rattle.leads.specs.LeadCodes.{leadCodesIn}
 use Rattle.packedsteps.specs.Spots.{termOf, NoSpots}
 use Rattle.packedsteps.specs.declared.Next.the-variants.{Reducible}
@@ -19,10 +20,10 @@ use Rattle.table.specs.Tabled.{Tabled}
 use Rattle.packedterms.specs.Formula.{wordAt, termAt, formula, Working}
 use Rattle.packedsteps.specs.Search.{codesAt, FirstFound}
 use Rattle.packedsteps.specs.Lines.{LineTaken}
-use Rattle.packedsteps.specs.Advance.{LeadsIn, Pending, TooMany, StepMade}
+use Rattle.packedsteps.specs.Advance.{Pending, TooMany, StepMade}
 use Rattle.packedsteps.proofs.TargetLaws.{found-pending}
 
-module _ (t : List ℕ) (T : Tabled t) (index : List ℕ) (L : LeadsIn t index) (c l w o : List ℕ) (n : ℕ) (W : Working t c l w o n)
+module _ (t : List ℕ) (T : Tabled t) (index : List ℕ) (L : CodeIndexed (leadCodesIn t) index) (c l w o : List ℕ) (n : ℕ) (W : Working t c l w o n)
     (from : ℕ) (none : NoSpots (basisIn t) (formula t c l w o n) from) (k i g : ℕ) (q : FirstFound (leadCodesIn t) (codesAt l w o) from n (Reducible k i g)) where
   abbrev f : Poly
   f = formula t c l w o n

@@ -1,20 +1,23 @@
 -- A step at a term of the formula: its word is cut, the products fit a place, and what is taken away is the step's line.
-use mathlib.Core.Path.{_≡_, _∙_, ap₂}
+use mathlib.Core.Path.{_≡_, sym, _∙_, ap, ap₂}
 use mathlib.Core.List.{List}
 use Prim.Native.Nat.{ℕ, suc, _+_, _-_, _*_, _%_, _≤_, _<_}
 use native.Mathlib.Decide.{decLt}
 use native.Mathlib.Omega.{arith}
 use lib.ListN.{length, getD}
 use Rattle.lists.proofs.Parts.{part-length}
+use Rattle.field.specs.Field.{fieldOf}
+use Rattle.field.proofs.Fields.{element-of}
 use Rattle.words.specs.Word.{Word}
 use Rattle.algebra.specs.Poly.{Term, Poly, scale, shift}
 use Rattle.algebra.specs.Written.{plus}
 use Rattle.algebra.specs.Ideal.{family}
+use Rattle.algebra.specs.Groebner.{leadCoef}
 use Rattle.algebra.specs.Spot.{spot, found}
 use Rattle.algebra.specs.Steps.{takeAway, lineAt, stepped}
 use Rattle.algebra.proofs.Spots.{spot-found}
 use Rattle.packedsteps.proofs.NotLonger.{below-length}
-use Rattle.table.specs.Table.{gensIn, fieldIn, orderIn, firstIn, sizeIn, blocksIn}
+use Rattle.table.specs.Table.{primeIn, gensIn, basisCountIn, fieldIn, orderIn, inverseIn, firstIn, sizeIn, blocksIn}
 use Rattle.table.specs.Words.{wordOf, Sixfold}
 use Rattle.table.specs.Polynomials.{wordIn, polynomialIn, basisIn}
 use Rattle.table.specs.Tabled.{Tabled}
@@ -26,6 +29,7 @@ use Rattle.packedsteps.specs.Cuts.{CutAt}
 use Rattle.packedsteps.specs.Lines.{LineTaken}
 use Rattle.packedsteps.specs.declared.Cut.{Cut}
 use Rattle.table.proofs.FallingWords.{item-falls}
+use Rattle.table.proofs.Inverses.{divided-back}
 use Rattle.table.proofs.WordSizes.{word-size}
 use Rattle.table.proofs.LeadingTerms.{LeadTerm}
 
@@ -64,26 +68,48 @@ module _ (t : List ℕ) (T : Tabled t) (g : ℕ) (L : LeadTerm t g) where
       → Fits t (r .left) (r .right) (firstIn t (gensIn t + g)) (firstIn t (suc (gensIn t + g)))
   step-fits C short = record { short = λ i lo hi. let e = C .letters in let m = none-longer i lo hi in omega arith }
 
+-- x divided by the leading coefficient of basis polynomial g.
+abbrev divided : (t : List ℕ) (x g : ℕ) → ℕ
+divided t x g = fieldIn t .mul x (fieldIn t .inv (leadCoef (family (basisIn t) g)))
+
+-- How that is computed: times the inverse, or x itself where that is 1.
+module _ (t : List ℕ) (T : Tabled t) (x g : ℕ) where
+  inverse-of : 1 ≤ g → g ≤ basisCountIn t → inverseIn t (g - 1) ≡ fieldIn t .inv (leadCoef (family (basisIn t) g))
+  inverse-of lo hi =
+      let e : suc (g - 1) ≡ g = omega arith in
+      T .inverses (g - 1) (omega arith) ∙ ap (λ (k : ℕ). fieldIn t .inv (leadCoef (family (basisIn t) k))) e
+
+  pub divided-is : (p y r : ℕ) → 1 ≤ g → g ≤ basisCountIn t → p ≡ primeIn t → y ≡ inverseIn t (g - 1) → r ≡ fieldOf p .mul x y → r ≡ divided t x g
+  divided-is p y r lo hi prime inverse product = product ∙ rw (prime, inverse, inverse-of lo hi)
+
+  pub divided-one : x < primeIn t → 1 ≤ g → g ≤ basisCountIn t → inverseIn t (g - 1) ≡ 1 → x ≡ divided t x g
+  divided-one small lo hi one =
+      sym (ap (fieldIn t .mul x) (sym (inverse-of lo hi) ∙ one) ∙ T .field .mul-one x ∙ T .field .red-elem x (element-of (primeIn t) small))
+
 module _ (t : List ℕ) (u : Term) (z i g : ℕ) (r : Cut) (left right : List ℕ) (C : CutAt t (u .word) z i g r left right)
     (found-at : spot (basisIn t) (u .word) ≡ found i g) where
-  -- The word is left × leading word × right.
-  pub step-place : family (basisIn t) g ≡ polynomialIn t (gensIn t + g)
-      → LeadPlace (polynomialIn t (gensIn t + g)) (wordOf t (r .left) left) (wordOf t (r .right) right) (u .word)
-  step-place e =
+  -- The term is (coefficient of the line) × left × leading term × right.
+  pub step-place : Tabled t → u .coef < primeIn t → family (basisIn t) g ≡ polynomialIn t (gensIn t + g)
+      → LeadPlace (fieldIn t) (divided t (u .coef) g) (wordOf t (r .left) left) (wordOf t (r .right) right) (polynomialIn t (gensIn t + g)) u
+  step-place T small e =
       let at = spot-found (basisIn t) (u .word) i g found-at in
-      record { some = λ z. at .0 (e ∙ z); word = rw (C .left-word, C .right-word, ← e) (at .1) }
+      record {
+        some = λ z. at .0 (e ∙ z);
+        word = rw (C .left-word, C .right-word, ← e) (at .1);
+        coef = rw (← e) (divided-back t T g (u .coef) (at .0) small);
+      }
 
-  pub step-line : LineTaken t u i g (u .coef) (r .left) left (r .right) right
+  pub step-line : LineTaken t u i g (divided t (u .coef) g) (r .left) left (r .right) right
   unfolding lineAt
   step-line = record {
     left-held = C .left-held;
     right-held = C .right-held;
-    line = ap₂ (λ (x y : Word). record { coef = u .coef; left = x; of = g; right = y }) (C .left-word) (C .right-word);
+    line = ap₂ (λ (x y : Word). record { coef = divided t (u .coef) g; left = x; of = g; right = y }) (C .left-word) (C .right-word);
   }
 
   pub step-sum : (f : Poly) → family (basisIn t) g ≡ polynomialIn t (gensIn t + g)
       → plus (fieldIn t) (orderIn t) f
-      (scale (fieldIn t) (fieldIn t .neg (u .coef)) (shift (wordOf t (r .left) left) (wordOf t (r .right) right) (polynomialIn t (gensIn t + g))))
+      (scale (fieldIn t) (fieldIn t .neg (divided t (u .coef) g)) (shift (wordOf t (r .left) left) (wordOf t (r .right) right) (polynomialIn t (gensIn t + g))))
       ≡ stepped (fieldIn t) (orderIn t) (basisIn t) f u i g
   unfolding stepped takeAway lineAt
   step-sum f p = rw (C .left-word, C .right-word, ← p)

@@ -12,6 +12,7 @@ use Rattle.algebra.specs.Poly.{Term, Poly}
 use Rattle.algebra.specs.Spot.{spot, nowhere, found, reduced, reducible, target}
 use Rattle.working.specs.Change.{single}
 use Rattle.working.proofs.Terms.{terms-length, terms-at}
+use Rattle.leads.specs.CodeIndex.{CodeIndexed}
 use Rattle.leads.specs.LeadCodes.{leadCodesFrom, leadCodesIn, codesIn}
 use Rattle.leads.specs.SpotOfWords.{spotOfWords}
 use Rattle.leads.proofs.SpotOfTable.{spot-of-table}
@@ -26,7 +27,6 @@ use Rattle.table.specs.Tabled.{Tabled}
 use Rattle.packedterms.specs.Formula.{wordAt, termAt, formula, Working}
 use Rattle.packedterms.proofs.Places.{term-place}
 use Rattle.packedsteps.specs.Search.{codesAt, Placed, FirstFound}
-use Rattle.packedsteps.specs.Advance.{LeadsIn}
 
 -- codes one by one
 codes-all : (w : Word) → Codes w → All (λ (c : ℕ). c < 32) w
@@ -39,11 +39,11 @@ lead-codes-all t j zero = done
 lead-codes-all t j (suc n) =
     codes-all (codesIn t (firstIn t j)) (unpacked-codes (sizeIn t (firstIn t j) % 256) (blocksIn t (firstIn t j))) also lead-codes-all t (suc j) n
 
-module _ (t : List ℕ) (T : Tabled t) (index : List ℕ) (L : LeadsIn t index) where
+module _ (t : List ℕ) (T : Tabled t) (index : List ℕ) (L : CodeIndexed (leadCodesIn t) index) where
   -- the spot of a packed word is that of its letters
   pub packed-spot : (n : ℕ) (bs : List ℕ) → spotOfWords (leadCodesIn t) (unpacked n bs) ≡ spot (basisIn t) (map (letterIn t) (unpacked n bs))
   packed-spot n bs =
-      spot-of-table t (L .nonzero) (λ (c : ℕ). c < 32) (T .keys .own) (lead-codes-all t (gensIn t + 1) (basisCountIn t)) (unpacked n bs)
+      spot-of-table t T (λ (c : ℕ). c < 32) (T .keys .own) (lead-codes-all t (gensIn t + 1) (basisCountIn t)) (unpacked n bs)
       (codes-all (unpacked n bs) (unpacked-codes n bs))
 
   module _ (c l w o : List ℕ) (n : ℕ) where

@@ -15,7 +15,7 @@ use Rattle.lists.proofs.Every.{all-map, all-split}
 use Rattle.algebra.specs.Poly.{Term, Poly, scale, shift}
 use Rattle.algebra.specs.Written.{Written, term, insert, plus}
 use Rattle.algebra.specs.Ideal.{family}
-use Rattle.algebra.specs.Groebner.{lead, Led}
+use Rattle.algebra.specs.Groebner.{lead, leadCoef, Led}
 use Rattle.working.proofs.Families.{family-written}
 use Rattle.algebra.specs.Spot.{spot, found}
 use Rattle.algebra.specs.Steps.{takeAway, lineAt, stepped}
@@ -45,7 +45,7 @@ before-above (s ∷ p) t r (term a b c d) = head (all-split p (t ∷ r) c .1) al
 module _ {K : Operations} (laws : Field K) {O : Order} (A : Admissible O) (ps : List Poly) (valid : All (λ f. Written K O f) ps) where
   -- what a step at a spot takes away
   abbrev pub taken : Term → ℕ → ℕ → Poly
-  taken t i g = scale K (K .neg (t .coef)) (shift (take i (t .word)) (drop (i + length (lead (family ps g))) (t .word)) (family ps g))
+  taken t i g = scale K (K .neg (K .mul (t .coef) (K .inv (leadCoef (family ps g))))) (shift (take i (t .word)) (drop (i + length (lead (family ps g))) (t .word)) (family ps g))
 
   pub stepped-is : (f : Poly) (t : Term) (i g : ℕ) → stepped K O ps f t i g ≡ plus K O f (taken t i g)
   unfolding stepped takeAway lineAt
@@ -53,7 +53,7 @@ module _ {K : Operations} (laws : Field K) {O : Order} (A : Admissible O) (ps : 
 
   pub taken-le : (t : Term) (i g : ℕ) → spot ps (t .word) ≡ found i g → All (λ s. Le O (s .word) (t .word)) (taken t i g)
   taken-le t i g e =
-      scale-words K (λ u. Le O u (t .word)) (K .neg (t .coef)) _ (go (written-led laws A (family ps g) (family-written K O ps valid g)))
+      scale-words K (λ u. Le O u (t .word)) (K .neg (K .mul (t .coef) (K .inv (leadCoef (family ps g))))) _ (go (written-led laws A (family ps g) (family-written K O ps valid g)))
     where
       cut : (family ps g ≢ []) × (around (take i (t .word)) (drop (i + length (lead (family ps g))) (t .word)) (lead (family ps g)) ≡ t .word)
       cut = spot-found ps (t .word) i g e

@@ -6,20 +6,13 @@ use lib.ListN.{length}
 use Rattle.algebra.specs.Poly.{Term, Poly}
 use Rattle.algebra.specs.Spot.{reduced, reducible, target}
 use Rattle.algebra.specs.Steps.{stepped}
-use Rattle.leads.specs.CodeIndex.{CodeIndexed}
-use Rattle.leads.specs.LeadCodes.{leadCodesIn}
 use Rattle.packedsteps.specs.Spots.{NoSpots}
 use Rattle.table.specs.Table.{fieldIn, orderIn}
-use Rattle.table.specs.Polynomials.{basisIn, BasisNonzero}
+use Rattle.table.specs.Polynomials.{basisIn}
 use Rattle.packedterms.specs.Formula.{formula, Working}
 use Rattle.packedsteps.specs.declared.Advanced.{Advanced}
 use Rattle.packedsteps.specs.declared.Advanced.the-variants as answered
 use Rattle.packedsteps.specs.Lines.{LineTaken}
-
--- No polynomial of the table's basis is zero, and the numbers are the index of their leading words.
-pub record LeadsIn (t index : List ℕ) : Type 0 where
-  pub nonzero : BasisNonzero t
-  pub indexed : CodeIndexed (leadCodesIn t) index
 
 -- A step applies to f: at the term, at the place in its word, with the polynomial of that number.
 pub record Pending (t : List ℕ) (f : Poly) : Type 0 where

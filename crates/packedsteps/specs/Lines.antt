@@ -4,6 +4,7 @@ use mathlib.Core.List.{List}
 use Prim.Native.Nat.{ℕ}
 use Rattle.algebra.specs.Poly.{Term}
 use Rattle.algebra.specs.Steps.{lineAt}
+use Rattle.table.specs.Table.{fieldIn}
 use Rattle.table.specs.Words.{lineOf, Sixfold}
 use Rattle.table.specs.Polynomials.{basisIn}
 
@@ -12,4 +13,4 @@ use Rattle.table.specs.Polynomials.{basisIn}
 pub record LineTaken (t : List ℕ) (u : Term) (i g x a : ℕ) (left : List ℕ) (b : ℕ) (right : List ℕ) : Type 0 where
   pub left-held : Sixfold t a left
   pub right-held : Sixfold t b right
-  pub line : lineOf t x a left g b right ≡ lineAt (basisIn t) u i g
+  pub line : lineOf t x a left g b right ≡ lineAt (fieldIn t) (basisIn t) u i g

@@ -8,11 +8,13 @@ use table::Table;
 ghost use mathlib.Core.Path.{_≡_};
 ghost use Prim.Native.Nat.{_≤_};
 ghost use lib.ListN.{length};
+ghost use Rattle.leads.specs.CodeIndex.{CodeIndexed};
+ghost use Rattle.leads.specs.LeadCodes.{leadCodesIn};
 ghost use Rattle.packedsteps.specs.Spots.{NoSpots};
 ghost use Rattle.table.specs.Polynomials.{basisIn};
 ghost use Rattle.table.specs.Tabled.{Tabled};
 ghost use Rattle.packedterms.specs.Formula.{formula, Working};
-ghost use Rattle.packedsteps.specs.Advance.{LeadsIn, AdvancedTo};
+ghost use Rattle.packedsteps.specs.Advance.{AdvancedTo};
 
 // Makes the step that comes behind `used` steps of the budget, if there is one, on the formula of n terms, no word of which before term `from` has a
 // leading word inside. The line taken away has its words in left and right; buf is scratch.
@@ -31,7 +33,7 @@ pub fn advance(
     right: &mut [u64; 6],
     buf: &mut [u64; 9],
 ) -> Advanced
-    requires { ⌜ Tabled (now t) × LeadsIn (now t) (now index) × (used ≤ budget) × (n ≤ 512) ⌝ }
+    requires { ⌜ Tabled (now t) × CodeIndexed (leadCodesIn (now t)) (now index) × (used ≤ budget) × (n ≤ 512) ⌝ }
     requires { ⌜ Working (now t) (now c) (now l) (now w) (now o) n × NoSpots (basisIn (now t)) (formula (now t) (now c) (now l) (now w) (now o) n) from ⌝ }
     requires { ⌜ (length (now left) ≡ 6) × (length (now right) ≡ 6) × (length (now buf) ≡ 9) ⌝ }
     ensures { λ r. ⌜

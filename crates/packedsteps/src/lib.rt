@@ -3,6 +3,7 @@
 
 pub mod advance;
 pub mod cutting;
+pub mod dividing;
 pub mod run;
 pub mod search;
 pub mod step;

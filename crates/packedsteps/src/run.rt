@@ -11,7 +11,8 @@ ghost use Rattle.table.specs.Table.{fieldIn, orderIn};
 ghost use Rattle.table.specs.Polynomials.{basisIn};
 ghost use Rattle.table.specs.Tabled.{Tabled};
 ghost use Rattle.packedterms.specs.Formula.{formula, Working};
-ghost use Rattle.packedsteps.specs.Advance.{LeadsIn};
+ghost use Rattle.leads.specs.CodeIndex.{CodeIndexed};
+ghost use Rattle.leads.specs.LeadCodes.{leadCodesIn};
 ghost use Rattle.packedsteps.specs.Outcome.{ranSeen, RanHolds};
 
 // Brings the formula of n terms to its short form. Each search goes on at the term of the last step: that step changed no term before it.
@@ -25,7 +26,7 @@ pub fn run(
     o: &mut [u16; 560],
     n: usize,
 ) -> Ran
-    requires { ⌜ Tabled (now t) × LeadsIn (now t) (now index) × Working (now t) (now c) (now l) (now w) (now o) n × (n ≤ 512) ⌝ }
+    requires { ⌜ Tabled (now t) × CodeIndexed (leadCodesIn (now t)) (now index) × Working (now t) (now c) (now l) (now w) (now o) n × (n ≤ 512) ⌝ }
     ensures { λ r. ⌜
         ranSeen (now (t .entry)) (now (c .exit)) (now (l .exit)) (now (w .exit)) (now (o .exit)) r
         ≡ steps.run 512 (fieldIn (now (t .entry))) (orderIn (now (t .entry))) (basisIn (now (t .entry))) budget 0

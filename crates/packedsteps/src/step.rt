@@ -1,9 +1,10 @@
-// One step: at a term in whose word a leading word stands, that term's multiple of the polynomial is taken away.
+// One step: at a term in whose word a leading word stands, the multiple of the polynomial that has this term is taken away.
 
 use crate::Stepped;
 use crate::cutting::cut;
 use crate::cutting::take_place;
-use itemadding::leading_term::take_onto_item;
+use crate::dividing::divide;
+use itemadding::leading_term::cancel_term;
 use lists::numbers::wide;
 use table::Table;
 ghost use mathlib.Core.Path.{_≡_};
@@ -53,8 +54,8 @@ pub fn step(
     let mut word = [0u64; 6];
     take_place(&mut word, w, s);
     let at = cut(t, &word, wide(l[s]), i, of, left, right);
-    let x = c[s];
-    let r = take_onto_item(
+    let x = divide(t, c[s], of);
+    let r = cancel_term(
         t,
         x,
         left,

@@ -20,10 +20,11 @@ ghost use Rattle.algebra.specs.Steps as steps;
 ghost use Rattle.package.specs.Formula.{readFormula};
 ghost use Rattle.acceptance.specs.Reduction.{formulaLimits, reductionOf, reduction};
 ghost use Rattle.table.specs.Table.{primeIn, lettersIn, fieldIn, orderIn};
-ghost use Rattle.table.specs.Polynomials.{basisIn, BasisNonzero};
+ghost use Rattle.table.specs.Polynomials.{basisIn};
 ghost use Rattle.table.specs.Tabled.{Tabled};
 ghost use Rattle.packedterms.specs.Formula.{formula, Room, Working};
-ghost use Rattle.packedsteps.specs.Advance.{LeadsIn};
+ghost use Rattle.leads.specs.CodeIndex.{CodeIndexed};
+ghost use Rattle.leads.specs.LeadCodes.{leadCodesIn};
 ghost use Rattle.reducing.specs.Reductions.{reducedBy, seenReduced, ShortHeld};
 
 // The formula of n terms that the arrays hold, brought to its short form under the basis of t, by the index of its leading words: 17 and 18. One
@@ -38,7 +39,7 @@ pub fn reduce_held(
     o: &mut [u16; 560],
     n: usize,
 ) -> Reduced
-    requires { ⌜ Tabled (now t) × LeadsIn (now t) (now index) × Working (now t) (now c) (now l) (now w) (now o) n × (n ≤ 512) ⌝ }
+    requires { ⌜ Tabled (now t) × CodeIndexed (leadCodesIn (now t)) (now index) × Working (now t) (now c) (now l) (now w) (now o) n × (n ≤ 512) ⌝ }
     ensures { λ r. ⌜
         seenReduced (now (t .entry)) (now (c .exit)) (now (l .exit)) (now (w .exit)) (now (o .exit)) r
         ≡ reductionOf budget
@@ -74,7 +75,7 @@ fn reduce_formula(
     w: &mut [u64; 3360],
     o: &mut [u16; 560],
 ) -> Reduced
-    requires { ⌜ Tabled (now t) × BasisNonzero (now t) × Room (now c) (now l) (now w) (now o) ⌝ }
+    requires { ⌜ Tabled (now t) × Room (now c) (now l) (now w) (now o) ⌝ }
     ensures { λ r. ⌜
         seenReduced (now (t .entry)) (now (c .exit)) (now (l .exit)) (now (w .exit)) (now (o .exit)) r
         ≡ reducedBy (now (t .entry)) budget

@@ -3,7 +3,8 @@ use mathlib.Core.Path.{_≡_, refl}
 use mathlib.Core.Bool.{Bool, true, false}
 use mathlib.Core.List.{List, [], _∷_}
 use Prim.Native.Nat.{ℕ}
-use lib.Dec.{ltb}
+use native.Mathlib.Omega.{arith}
+use lib.Dec.{ltb, lit≤}
 use lib.ListN.{length}
 use Rattle.field.specs.Field.{fieldOf}
 use Rattle.words.specs.Word.{Word}
@@ -17,12 +18,12 @@ use Rattle.package.proofs.ReadingNumbers.{Numbered}
 use Rattle.overlaps.specs.Overlaps.{leads}
 use Rattle.overlaps.specs.Listing.{overlapText}
 use Rattle.acceptance.specs.Content.{basis}
-use Rattle.acceptance.specs.Check.{Verdict, refusal, fine, basisJudged, checked}
+use Rattle.acceptance.specs.Check.{Verdict, refusal, fine, leadsJudged, basisJudged, checked}
 use Rattle.acceptance.specs.Acceptance.{judgedBy, acceptance}
 use Rattle.acceptance.specs.Reduction.{formulaLimits, Reduction, refusedBy, shortForm, reductionOf, formulaReduced, packageReduced, reduction}
 use Rattle.services.specs.Services.{listable, checkAnswer, checkedAs, wordsListed, listAnswer, listedAs, shortAnswer, shortenedAs, memberAnswer, membershipAs}
 use Rattle.services.specs.Demands.{Between}
-use Rattle.services.proofs.VerdictNumbers.{Judged, basis-number, check-number}
+use Rattle.services.proofs.VerdictNumbers.{Judged, leads-number, basis-judged, check-judged}
 
 -- A refusal's number that has one property has every weaker one.
 pub outcome-weaker : (Q R : ℕ → Type 0) → ((n : ℕ) → Q n → R n) → (o : Outcome) → Numbered Q o → Numbered R o
@@ -30,29 +31,33 @@ unfolding Numbered
 outcome-weaker Q R h (refused n k) x = h n x
 outcome-weaker Q R h (read P) x = tt
 
-verdict-weaker : (Q R : ℕ → Type 0) → ((n : ℕ) → Q n → R n) → (v : Verdict) → Judged Q v → Judged R v
-unfolding Judged
-verdict-weaker Q R h (refusal n k) x = h n x
-verdict-weaker Q R h fine x = tt
-
 module _ (Q : ℕ → Type 0) where
   -- What was read is judged: a refusal is the reader's or the judge's.
-  judged-number : (judge : Package → Verdict) → ((P : Package) → Judged Q (judge P)) → (o : Outcome) → Numbered Q o → Numbered Q (judgedBy judge o)
+  judged-number : (judge : Package → Verdict) (o : Outcome) → ((P : Package) → o ≡ read P → Judged Q (judge P)) → Numbered Q o → Numbered Q (judgedBy judge o)
   unfolding Numbered Judged judgedBy
-  judged-number judge j (refused n k) x = x
-  judged-number judge j (read P) x = go (judge P) (j P)
+  judged-number judge (refused n k) j x = x
+  judged-number judge (read P) j x = go (judge P) (j P refl)
     where
       go : (v : Verdict) → Judged Q v → Numbered Q {A = Package} (elim v [ refusal n k ↦ refused n k | fine ↦ read P ])
       go (refusal n k) y = y
       go fine y = tt
 
+  -- What 8 gives may depend on the package.
+  module _ (bytes : List ℕ) (eight : (P : Package) → readPackage bytes ≡ read P → Judged Q (leadsJudged (basis P) 1)) where
+    pub acceptance-by : ((n : ℕ) → Between 9 15 n → Q n) → Numbered Q (readPackage bytes) → Numbered Q (acceptance bytes)
+    unfolding acceptance
+    acceptance-by h = judged-number checked (readPackage bytes) (λ P e. check-judged Q P (eight P e) h)
+
+    pub listable-by : Q 9 → Numbered Q (readPackage bytes) → Numbered Q (listable bytes)
+    unfolding listable
+    listable-by r = judged-number (λ P. basisJudged (basis P)) (readPackage bytes) (λ P e. basis-judged Q (basis P) (eight P e) r)
+
   pub acceptance-has : ((n : ℕ) → Between 8 15 n → Q n) → (bytes : List ℕ) → Numbered Q (readPackage bytes) → Numbered Q (acceptance bytes)
-  unfolding acceptance
-  acceptance-has h bytes = judged-number checked (λ P. verdict-weaker (Between 8 15) Q h (checked P) (check-number P)) (readPackage bytes)
+  acceptance-has h bytes =
+      acceptance-by bytes (λ P e. leads-number Q (h 8 (lit≤ tt, lit≤ tt)) (basis P) 1) (λ n x. h n (let k = x .0 in omega arith, x .1))
 
   pub listable-has : Q 8 → Q 9 → (bytes : List ℕ) → Numbered Q (readPackage bytes) → Numbered Q (listable bytes)
-  unfolding listable
-  listable-has q r bytes = judged-number (λ P. basisJudged (basis P)) (λ P. basis-number Q q r (basis P)) (readPackage bytes)
+  listable-has q r bytes = listable-by bytes (λ P e. leads-number Q q (basis P) 1) r
 
   -- A reduction that, where it is a refusal, has a number with the property.
   unfoldable pub ReductionNumber : Reduction → Type 0

@@ -11,6 +11,9 @@ use Rattle.services.proofs.Refusals.{refused-check, refused-list, refus
 use Rattle.services.proofs.Acceptance.{accepted-iff}
 use Rattle.services.proofs.Judgements.{package-first, formula-next, refusals-told, room-last}
 use Rattle.services.proofs.FieldRefusals.{refused-by-3, check-3, list-3, short-3, member-3}
+use Rattle.services.proofs.ZeroRefusals.{refused-by-8, check-8, list-8, short-8, member-8}
+use Rattle.services.proofs.StepsByRule.{step-taken}
+use Rattle.package.proofs.PackageTexts.{reads-written}
 use Rattle.services.proofs.RunsByRule.{steps-end-iff}
 use Rattle.services.proofs.DefinedAnswers.{check-count, list-overlaps, short-by-steps, member-by-steps}
 use Rattle.services.proofs.ShortForms.{accepted-field, same-bytes-iff, written-short, member-iff}
@@ -57,8 +60,14 @@ demand2 = record {
   list-field = list-3;
   short-field = short-3;
   member-field = member-3;
+  zero-basis = refused-by-8;
+  check-zero = check-8;
+  list-zero = list-8;
+  short-zero = short-8;
+  member-zero = member-8;
   package-first = package-first;
   formula-next = formula-next;
+  step = λ bytes P acc {f} c {t} {i} {n} r. step-taken P (reads-written P bytes (acc .reads) .0) c r;
   steps = steps-end-iff;
   refusals = refusals-told;
   room-last = room-last;

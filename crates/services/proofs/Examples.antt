@@ -1,7 +1,8 @@
 -- Every row of the tables of examples (specs/Examples.antt) holds, by computation.
 use mathlib.Core.Path.{_≡_, refl}
+use native.Mathlib.Decide.{decLt}
 use lib.Dec.{lit<}
-use Rattle.field.specs.ByteField.{byteSum, timesX, byteTimes}
+use Rattle.field.specs.ByteField.{byteSum, timesX, byteTimes, bytePower}
 use Rattle.lists.specs.All.{All, done, _also_}
 use Rattle.words.specs.Order.{wordOrder}
 use Rattle.text.specs.Number.{writeNumber}
@@ -16,13 +17,13 @@ use Rattle.acceptance.specs.Acceptance.{acceptance}
 use Rattle.acceptance.specs.Reduction.{packageReduced}
 use Rattle.services.specs.Services.{listable, checkedAs}
 use Rattle.services.specs.Demands.{AcceptedAs}
-use Rattle.services.specs.Examples.{Keeps, Empties, Claim, examples, packageNone, packageOne, edges, package256, byteRows}
+use Rattle.services.specs.Examples.{Keeps, Empties, Claim, examples, packageNone, packageOne, edges, package256, byteRows, packageScaled, packageScaled256, scaledRows}
 use Rattle.services.proofs.TrivialBases.{none-keeps, one-empties}
 use Rattle.services.proofs.Rows.{shortens, is-member, refuses, lacks-room, is-above, lists, accepts}
 
 -- What the check and listing take each package for, computed once.
 acceptedE : (P : Package) × (acceptance packageE ≡ read P)
-unfolding acceptance packageE
+unfolding acceptance packageE decLt
 acceptedE = (_, refl)
 
 listableE : (P : Package) × (listable packageE ≡ read P)
@@ -34,12 +35,20 @@ unfolding acceptance packageNone
 acceptedNone = (_, refl)
 
 acceptedOne : (P : Package) × (acceptance packageOne ≡ read P)
-unfolding acceptance packageOne
+unfolding acceptance packageOne decLt
 acceptedOne = (_, refl)
 
 accepted256 : (P : Package) × (acceptance package256 ≡ read P)
-unfolding acceptance package256 byteSum timesX byteTimes
+unfolding acceptance package256 byteSum timesX byteTimes bytePower
 accepted256 = (_, refl)
+
+acceptedScaled : (P : Package) × (acceptance packageScaled ≡ read P)
+unfolding acceptance packageScaled decLt
+acceptedScaled = (_, refl)
+
+scaledByteAccepted : (P : Package) × (acceptance packageScaled256 ≡ read P)
+unfolding acceptance packageScaled256 byteSum timesX byteTimes bytePower
+scaledByteAccepted = (_, refl)
 
 -- No relations and no basis: each formula is its own short form.
 acceptedAsNone : AcceptedAs packageNone (acceptedNone .0)
@@ -61,7 +70,7 @@ emptiesOne = record { content = acceptedOne .0; accepted = acceptedAsOne; to-zer
 
 -- 01's table of the rows marked †.
 pub examples-hold : All Claim examples
-unfolding Claim examples acceptedE listableE packageReduced writeFormula writeNumber writeWord wordOf wordOrder overlaps leads basis overlapText
+unfolding Claim examples acceptedE listableE decLt packageReduced writeFormula writeNumber writeWord wordOf wordOrder overlaps leads basis overlapText
 examples-hold =
     shortens (acceptedE .1) refl refl
     also shortens (acceptedE .1) refl refl
@@ -78,7 +87,7 @@ examples-hold =
 
 -- The rows that 01 does not mark.
 pub edges-hold : All Claim edges
-unfolding Claim edges acceptedE acceptedNone acceptedOne packageReduced writeFormula writeNumber writeWord overlaps leads basis
+unfolding Claim edges acceptedE acceptedNone acceptedOne decLt packageReduced writeFormula writeNumber writeWord overlaps leads basis
 edges-hold =
     refuses (acceptedE .1) refl
     also shortens (acceptedE .1) refl refl
@@ -96,7 +105,7 @@ edges-hold =
 
 -- The rows over GF(256).
 pub byte-rows-hold : All Claim byteRows
-unfolding Claim byteRows accepted256 byteSum timesX byteTimes packageReduced writeFormula writeNumber writeWord overlaps leads basis
+unfolding Claim byteRows accepted256 byteSum timesX byteTimes bytePower packageReduced writeFormula writeNumber writeWord overlaps leads basis
 byte-rows-hold =
     accepts (accepted256 .1) refl
     also shortens (accepted256 .1) refl refl
@@ -104,4 +113,17 @@ byte-rows-hold =
     also shortens (accepted256 .1) refl refl
     also is-member (accepted256 .1) refl
     also refuses (accepted256 .1) refl
+    also done
+
+-- The rows with leading coefficients other than 1.
+pub scaled-rows-hold : All Claim scaledRows
+unfolding Claim scaledRows acceptedScaled scaledByteAccepted decLt byteSum timesX byteTimes bytePower packageReduced writeFormula writeNumber writeWord overlaps leads basis
+scaled-rows-hold =
+    accepts (acceptedScaled .1) refl
+    also shortens (acceptedScaled .1) refl refl
+    also shortens (acceptedScaled .1) refl refl
+    also shortens (acceptedScaled .1) refl refl
+    also is-member (acceptedScaled .1) refl
+    also accepts (scaledByteAccepted .1) refl
+    also shortens (scaledByteAccepted .1) refl refl
     also done

@@ -12,7 +12,7 @@ use Rattle.acceptance.specs.Check.{basisJudged, checked}
 use Rattle.acceptance.specs.Acceptance.{judgedBy, acceptance}
 use Rattle.acceptance.specs.Reduction.{packageReduced, reduction}
 use Rattle.services.specs.Services.{listable, checkAnswer, checkedAs, listAnswer, listedAs, shortAnswer, shortenedAs, memberAnswer, membershipAs}
-use Rattle.services.specs.Demands.{RefusedBy3}
+use Rattle.services.specs.Demands.{EachRefuses}
 use Rattle.services.proofs.AnswerNumbers.{acceptance-has, listable-has, ReductionNumber, reduction-has, check-has, list-has, short-has, member-has}
 
 -- Only these packages get 3.
@@ -43,7 +43,7 @@ module _ (bytes : List ℕ) where
   member-3 text budget = member-has (OnlyNoField bytes) success bytes text budget (reduction-3 text budget)
 
 -- And they get it from every service.
-pub refused-by-3 : (bytes : List ℕ) → NoField bytes → RefusedBy3 bytes
+pub refused-by-3 : (bytes : List ℕ) → NoField bytes → EachRefuses bytes 3 2
 unfolding checkedAs checkAnswer listedAs listAnswer listable shortenedAs shortAnswer membershipAs memberAnswer acceptance judgedBy reduction packageReduced
 refused-by-3 bytes n =
     let r = refused-3 bytes n in

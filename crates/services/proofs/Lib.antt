@@ -3,6 +3,7 @@ pub mod VerdictNumbers
 pub mod AnswerNumbers
 pub mod ServiceNumbers
 pub mod FieldRefusals
+pub mod ZeroRefusals
 pub mod Refusals
 pub mod Room
 pub mod OutputStart

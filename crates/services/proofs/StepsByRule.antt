@@ -9,8 +9,10 @@ use Rattle.words.proofs.WordOrder.{word-order-admissible}
 use Rattle.algebra.specs.Poly.{Term, Poly}
 use Rattle.algebra.specs.Written.{Written}
 use Rattle.algebra.specs.Ideal.{family, Line}
-use Rattle.algebra.specs.StepRule.{NoStep}
+use Rattle.algebra.specs.Rewriting.{Step}
+use Rattle.algebra.specs.StepRule.{StepRule, NoStep}
 use Rattle.algebra.specs.Steps.{lineAt, stepped, Sequence, ended, step}
+use Rattle.algebra.proofs.ComputedSteps.{step-of-target}
 use Rattle.algebra.proofs.RuleOfSteps.{target-iff, target-none-iff}
 use Rattle.algebra.proofs.Running.{takeAway-written, run-sequence}
 use Rattle.algebra.proofs.OneSequence.{sequence-unique}
@@ -19,7 +21,7 @@ use Rattle.package.specs.Readable.{Readable}
 use Rattle.package.proofs.PackageTexts.{reads-written}
 use Rattle.acceptance.specs.Content.{basis}
 use Rattle.acceptance.specs.Reduction.{formulaLimits}
-use Rattle.acceptance.proofs.ReadableContent.{readable-field}
+use Rattle.acceptance.proofs.ReadableContent.{readable-field, basis-leading}
 use Rattle.acceptance.proofs.FormulaContent.{formula-content}
 use Rattle.services.specs.Demands.{StepsTo, unmoved, stepThen, OnlySteps}
 use Rattle.services.proofs.NumberZero.{accepted-as, RanTo}
@@ -29,7 +31,13 @@ module _ (P : Package) (r : Readable P) where
   pub stepped-written : (f : Poly) (t : Term) (i n : ℕ) → Written (fieldOf (P .head .p)) wordOrder f
       → Written (fieldOf (P .head .p)) wordOrder (stepped (fieldOf (P .head .p)) wordOrder (basis P) f t i n)
   unfolding stepped
-  stepped-written f t i n c = takeAway-written (readable-field P r) word-order-admissible (family (basis P)) f (lineAt (basis P) t i n) c
+  stepped-written f t i n c = takeAway-written (readable-field P r) word-order-admissible (family (basis P)) f (lineAt (fieldOf (P .head .p)) (basis P) t i n) c
+
+  -- The step that the rule names is a step of the theory.
+  pub step-taken : {f : Poly} → Written (fieldOf (P .head .p)) wordOrder f → {t : Term} {i n : ℕ} → StepRule wordOrder (basis P) f t i n
+      → Step (fieldOf (P .head .p)) wordOrder (family (basis P)) f (stepped (fieldOf (P .head .p)) wordOrder (basis P) f t i n)
+  step-taken c {t} {i} {n} q =
+      step-of-target (readable-field P r) word-order-admissible (basis P) (basis-leading P r) c t i n (target-iff (basis P) word-order-admissible c t i n .1 q)
 
   rule-of-sequence : {f N : Poly} {xs : List Line} → Written (fieldOf (P .head .p)) wordOrder f
       → Sequence (fieldOf (P .head .p)) wordOrder (basis P) f xs N → StepsTo P f (length xs) N × NoStep (basis P) N
@@ -43,7 +51,7 @@ module _ (P : Package) (r : Readable P) where
   sequence-of-rule {f} c unmoved e = ([], ended (target-none-iff (basis P) f .1 e), refl)
   sequence-of-rule {f} c (stepThen {t = t} {i} {n} x s) e =
       let (xs, q, l) = sequence-of-rule (stepped-written f t i n c) s e in
-      (lineAt (basis P) t i n ∷ xs, step (target-iff (basis P) word-order-admissible c t i n .1 x) q, ap suc l)
+      (lineAt (fieldOf (P .head .p)) (basis P) t i n ∷ xs, step (target-iff (basis P) word-order-admissible c t i n .1 x) q, ap suc l)
 
   -- One end is reached from f by the rule, in one number of steps.
   pub steps-unique : {f M N : Poly} {m n : ℕ} → Written (fieldOf (P .head .p)) wordOrder f

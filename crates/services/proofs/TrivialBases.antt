@@ -9,7 +9,7 @@ use lib.Dec.{ltb}
 use lib.ListN.{length}
 use borrow.Author.Tests.{eq-eqb, le-ltb}
 use Rattle.field.specs.Field.{Operations, Field, fieldOf}
-use Rattle.field.proofs.Derived.{red-zero}
+use Rattle.field.proofs.Derived.{red-zero, red-mul-right, divided-by-one, sub-self, neg-eq-mul}
 use Rattle.words.specs.declared.Comparison.{Comparison}
 use Rattle.words.specs.declared.Comparison.the-variants.{Below, Equal, Above}
 use Rattle.words.specs.Word.{Word}
@@ -19,7 +19,7 @@ use Rattle.words.proofs.WordOrder.{word-order-admissible}
 use Rattle.algebra.specs.Poly.{Term, Poly, scale, shift}
 use Rattle.algebra.specs.Written.{put, insert, plus}
 use Rattle.algebra.specs.Ideal.{family}
-use Rattle.algebra.specs.Groebner.{lead}
+use Rattle.algebra.specs.Groebner.{lead, leadCoef}
 use Rattle.algebra.specs.Spot.{firstBegins, nowhere, found, spotAt, spotFrom, spot, Target, reduced, reducible, targetOf, target}
 use Rattle.algebra.specs.Steps.{takeAway, lineAt, stepped, Ended, answer, over, spent, onward, run}
 use Rattle.package.specs.Package.{Package}
@@ -62,15 +62,16 @@ unfolding target targetOf
 target-one t f = ap (λ s. targetOf t s (target basisOne f)) (spot-one (t .word))
 
 module _ {K : Operations} (F : Field K) {O : Order} (A : Admissible O) where
-  open Operations K using (red, add, mul, neg)
+  open Operations K using (red, add, mul, neg, inv)
 
   -- The coefficient after the step is 0.
-  cancels : (c : ℕ) → red (add (mul (neg c) 1) c) ≡ 0
-  cancels c = rw (F .mul-one, F .red-neg, F .add-comm (neg c) c, F .add-neg) (red-zero F)
+  cancels : (c : ℕ) → red (add (mul (neg (mul c (inv 1))) 1) c) ≡ 0
+  cancels c =
+      rw (F .mul-one, F .red-neg, divided-by-one F, neg-eq-mul F (red c), red-mul-right F, F .add-comm (mul (neg 1) c) c, sub-self F) (red-zero F)
 
   -- The step takes the term away.
   stepped-one : (t : Term) (f : Poly) → stepped K O basisOne (t ∷ f) t 0 1 ≡ f
-  unfolding stepped takeAway lineAt plus insert put scale shift family lead
+  unfolding stepped takeAway lineAt plus insert put scale shift family lead leadCoef
   stepped-one t f =
       ap (λ (c : Comparison). elim c [
         | Below ↦ t ∷ insert K O s f
@@ -78,10 +79,10 @@ module _ {K : Operations} (F : Field K) {O : Order} (A : Admissible O) where
         | Above ↦ put K (s .coef) (s .word) (t ∷ f)
       ]) (order-refl A (t .word))
       ∙ ap (λ (b : Bool). elim b [ true ↦ f | false ↦ record { coef = red (add (s .coef) (t .coef)); word = t .word } ∷ f ])
-      (eq-eqb (red (add (mul (neg (t .coef)) 1) (t .coef))) 0 (cancels (t .coef)))
+      (eq-eqb (red (add (s .coef) (t .coef))) 0 (cancels (t .coef)))
     where
       s : Term
-      s = record { coef = mul (neg (t .coef)) 1; word = t .word }
+      s = record { coef = mul (neg (mul (t .coef) (inv 1))) 1; word = t .word }
 
   -- As many steps as there are terms leave zero.
   run-one : (limit : ℕ) (f : Poly) (used : ℕ) → length f ≤ limit → run limit K O basisOne (length f) used f ≡ answer [] (used + length f)

@@ -3,6 +3,7 @@
 use mathlib.Core.Bool.{Bool, true, false}
 use mathlib.Core.List.{List, [], _∷_}
 use Prim.Native.Nat.{ℕ, suc}
+use native.Mathlib.Omega.{arith}
 use lib.Dec.{eqb, ltb, lit≤}
 use lib.ListN.{length}
 use Rattle.lists.specs.All.{All, done, _also_}
@@ -31,15 +32,11 @@ module _ (Q : ℕ → Type 0) where
   then-number (refusal n k) w x y = x
   then-number fine w x y = y
 
-  leads-number : Q 8 → (ps : List Poly) (i : ℕ) → Judged (leadsJudged ps i)
+  pub leads-number : Q 8 → (ps : List Poly) (i : ℕ) → Judged (leadsJudged ps i)
   unfolding Judged leadsJudged
   leads-number q [] i = tt
   leads-number q ([] ∷ ps) i = q
-  leads-number q ((t ∷ f) ∷ ps) i = go (eqb (t .coef) 1) (leads-number q ps (suc i))
-    where
-      go : (b : Bool) → Judged (leadsJudged ps (suc i)) → Judged (elim b [ true ↦ leadsJudged ps (suc i) | false ↦ refusal 8 i ])
-      go true x = x
-      go false x = q
+  leads-number q ((t ∷ f) ∷ ps) i = leads-number q ps (suc i)
 
   apart-number : Q 9 → (all us : List Word) (i : ℕ) → Judged (apartJudged all us i)
   unfolding Judged apartJudged
@@ -91,22 +88,29 @@ module _ (Q : ℕ → Type 0) where
       let l = less (isUnder O G (overlapWord G o)) K O G (written K O (difference K G o)) (sumOf sumO i ss) in
       then-number (sumVerdict 13 i l) (overlapsJudged K O G ss os (suc i)) (left-number q u r i l) (overlaps-number q r u K O G ss os (suc i))
 
-  -- The basis is refused by 8 or 9.
-  pub basis-number : Q 8 → Q 9 → (ps : List Poly) → Judged (basisJudged ps)
+  -- The basis is refused by what 8 gives, or by 9.
+  pub basis-judged : (ps : List Poly) → Judged (leadsJudged ps 1) → Q 9 → Judged (basisJudged ps)
   unfolding basisJudged
-  basis-number q r ps = then-number (leadsJudged ps 1) (apartJudged (leads ps) (leads ps) 1) (leads-number q ps 1) (apart-number r (leads ps) (leads ps) 1)
+  basis-judged ps q r = then-number (leadsJudged ps 1) (apartJudged (leads ps) (leads ps) 1) q (apart-number r (leads ps) (leads ps) 1)
+
+  -- The check refuses a package that reads by what 8 gives, or by one of 9 to 15.
+  pub check-judged : (P : Package) → Judged (leadsJudged (basis P) 1) → ((n : ℕ) → Between 9 15 n → Q n) → Judged (checked P)
+  unfolding checked sumsVerdict
+  check-judged P q h =
+      let K = fieldOf (P .head .p) in
+      let rs = relations P in
+      let ps = basis P in
+      let ss = P .sums in
+      let nine = h 9 (lit≤ tt, lit≤ tt) in
+      let ten = h 10 (lit≤ tt, lit≤ tt) in
+      let fourteen = h 14 (lit≤ tt, lit≤ tt) in
+      then-number (basisJudged ps) _ (basis-judged ps q nine)
+      (then-number (kindsJudged K wordOrder ss (sides rs ps)) _
+      (kinds-number ten fourteen K wordOrder ss (sides rs ps) (h 11 (lit≤ tt, lit≤ tt) also h 12 (lit≤ tt, lit≤ tt) also done))
+      (then-number (itemsJudged (length (overlaps (leads ps))) ss) _ (items-number (h 15 (lit≤ tt, lit≤ tt)) (length (overlaps (leads ps))) ss)
+      (overlaps-number ten (h 13 (lit≤ tt, lit≤ tt)) fourteen K wordOrder (family ps) ss (overlaps (leads ps)) 1)))
 
 -- The check refuses a package that reads by one of 8 to 15.
 pub check-number : (P : Package) → Judged (Between 8 15) (checked P)
-unfolding checked sumsVerdict
 check-number P =
-    let K = fieldOf (P .head .p) in
-    let rs = relations P in
-    let ps = basis P in
-    let ss = P .sums in
-    let Q = Between 8 15 in
-    then-number Q (basisJudged ps) _ (basis-number Q (lit≤ tt, lit≤ tt) (lit≤ tt, lit≤ tt) ps)
-    (then-number Q (kindsJudged K wordOrder ss (sides rs ps)) _
-    (kinds-number Q (lit≤ tt, lit≤ tt) (lit≤ tt, lit≤ tt) K wordOrder ss (sides rs ps) ((lit≤ tt, lit≤ tt) also (lit≤ tt, lit≤ tt) also done))
-    (then-number Q (itemsJudged (length (overlaps (leads ps))) ss) _ (items-number Q (lit≤ tt, lit≤ tt) (length (overlaps (leads ps))) ss)
-    (overlaps-number Q (lit≤ tt, lit≤ tt) (lit≤ tt, lit≤ tt) (lit≤ tt, lit≤ tt) K wordOrder (family ps) ss (overlaps (leads ps)) 1)))
+    check-judged (Between 8 15) P (leads-number (Between 8 15) (lit≤ tt, lit≤ tt) (basis P) 1) (λ n x. (let k = x .0 in omega arith, x .1))

@@ -14,6 +14,8 @@ use Rattle.words.specs.Word.{Letter}
 use Rattle.words.specs.Order.{wordOrder}
 use Rattle.algebra.specs.Poly.{Term, Poly, InLetters, sub}
 use Rattle.algebra.specs.Ideal.{family, InIdeal}
+use Rattle.algebra.specs.Written.{Written}
+use Rattle.algebra.specs.Rewriting.{Step}
 use Rattle.algebra.specs.Short.{Short}
 use Rattle.algebra.specs.StepRule.{StepRule, NoStep}
 use Rattle.algebra.specs.Steps.{stepped}
@@ -27,6 +29,7 @@ use Rattle.overlaps.specs.Overlaps.{Overlap, IsOverlap, Rising, leads}
 use Rattle.overlaps.specs.Listing.{overlapNames, overlapLines}
 use Rattle.acceptance.specs.Content.{relations, basis}
 use Rattle.acceptance.specs.Facts.{Acceptable}
+use Rattle.acceptance.specs.ZeroBasis.{ZeroBasis}
 use Rattle.acceptance.specs.Reduction.{formulaLimits, Reduction, refusedBy, shortForm, reduction}
 use Rattle.services.specs.declared.Checked.{Checked}
 use Rattle.services.specs.declared.Listed.{Listed}
@@ -102,12 +105,16 @@ pub record FactsHold (bytes : List ℕ) : Type 0 where
   pub readable : Readable content
   pub facts : Acceptable content
 
--- Every service refuses the package's bytes by 3 with place 2 and counts 0, whatever else is handed in.
-pub record RefusedBy3 (bytes : List ℕ) : Type 0 where
-  pub check : checkedAs bytes ≡ record { number = 3; place = 2; overlaps = 0 }
-  pub list : (room : ℕ) → listedAs bytes room ≡ record { number = 3; place = 2; overlaps = 0; written = 0 }
-  pub short : (text : List ℕ) (budget room : ℕ) → shortenedAs bytes text budget room ≡ refusedShort 3 2
-  pub member : (text : List ℕ) (budget : ℕ) → membershipAs bytes text budget ≡ record { number = 3; place = 2; steps = 0; member = 0 }
+-- Every service refuses the package's bytes by number n with place k and counts 0, whatever else is handed in.
+pub record EachRefuses (bytes : List ℕ) (n k : ℕ) : Type 0 where
+  pub check : checkedAs bytes ≡ record { number = n; place = k; overlaps = 0 }
+  pub list : (room : ℕ) → listedAs bytes room ≡ record { number = n; place = k; overlaps = 0; written = 0 }
+  pub short : (text : List ℕ) (budget room : ℕ) → shortenedAs bytes text budget room ≡ refusedShort n k
+  pub member : (text : List ℕ) (budget : ℕ) → membershipAs bytes text budget ≡ record { number = n; place = k; steps = 0; member = 0 }
+
+-- The bytes read as a package that has a zero polynomial in its basis.
+abbrev pub SomeZero : List ℕ → Type 0
+SomeZero bytes = (i : ℕ) × ZeroBasis bytes i
 
 -- The list holds the overlaps of the package's leading words by 01's sentence, all of them and nothing else, by first, then second, then shared, all
 -- rising.
@@ -128,7 +135,7 @@ pub record ListsOverlaps (P : Package) (a : Listed) (before after : List ℕ) : 
   pub output : after ≡ atStart (listText P rows) before
 
 -- m steps by 01's rule lead from f to N. Each is the step that the rule names (StepRule: the greatest word that has a leading word inside, at the leftmost
--- place); `stepped` subtracts that word's coefficient × left × basis polynomial × right.
+-- place); `stepped` subtracts that word's coefficient × inverse of the leading coefficient × left × basis polynomial × right.
 pub data StepsTo (P : Package) : Poly → ℕ → Poly → Type 0 where
   unmoved : {f : Poly} → StepsTo P f 0 f
   stepThen : {f N : Poly} {m : ℕ} {t : Term} {i n : ℕ} → StepRule wordOrder (basis P) f t i n
@@ -180,17 +187,29 @@ pub record Demand2 : Type 0 where
       → (P : Package) × (readPackage bytes ≡ read P) × ListsOverlaps P (listedAs bytes (length out)) out (listedInto bytes out)
   -- refusal 3, as document 02 has it (P9): where the bytes are not too many, line 1 is its names, and line 2 has four numbers of which the first is neither
   -- 256 nor a prime up to 65,521, every service gives 3 with place 2; and none gives 3 elsewhere
-  pub no-field : (bytes : List ℕ) → NoField bytes → RefusedBy3 bytes
+  pub no-field : (bytes : List ℕ) → NoField bytes → EachRefuses bytes 3 2
   pub check-field : (bytes : List ℕ) → checkedAs bytes .number ≡ 3 → NoField bytes
   pub list-field : (bytes : List ℕ) (room : ℕ) → listedAs bytes room .number ≡ 3 → NoField bytes
   pub short-field : (bytes text : List ℕ) (budget room : ℕ) → shortenedAs bytes text budget room .number ≡ 3 → NoField bytes
   pub member-field : (bytes text : List ℕ) (budget : ℕ) → membershipAs bytes text budget .number ≡ 3 → NoField bytes
+  -- refusal 8, as document 02 has it (P4): where the bytes read and a basis polynomial is zero, every service gives 8 with the number of the first; and
+  -- none gives 8 elsewhere
+  pub zero-basis : (bytes : List ℕ) (i : ℕ) → ZeroBasis bytes i → EachRefuses bytes 8 i
+  pub check-zero : (bytes : List ℕ) → checkedAs bytes .number ≡ 8 → SomeZero bytes
+  pub list-zero : (bytes : List ℕ) (room : ℕ) → listedAs bytes room .number ≡ 8 → SomeZero bytes
+  pub short-zero : (bytes text : List ℕ) (budget room : ℕ) → shortenedAs bytes text budget room .number ≡ 8 → SomeZero bytes
+  pub member-zero : (bytes text : List ℕ) (budget : ℕ) → membershipAs bytes text budget .number ≡ 8 → SomeZero bytes
   -- `reduction` is what both formula services judge before 19: the whole package as the check does, then 16 with the formula's line, then 17 and 18 as
   -- steps go
   pub package-first : (bytes text : List ℕ) (budget : ℕ) → checkedAs bytes .number ≢ 0
       → reduction bytes text budget ≡ refusedBy (checkedAs bytes .number) (checkedAs bytes .place)
   pub formula-next : (bytes text : List ℕ) (budget : ℕ) (P : Package) (line : ℕ) → AcceptedAs bytes P
       → readFormula (P .head .p) (P .head .letters) formulaLimits text ≡ wrongAt line → reduction bytes text budget ≡ refusedBy 16 line
+  -- the step that the rule names is one of source document 002 (definition 3.4.1): what it takes away is the word's coefficient × left × (polynomial
+  -- divided by its leading coefficient) × right, whatever the polynomial leads with
+  pub step : (bytes : List ℕ) (P : Package) → AcceptedAs bytes P → {f : Poly} → Written (fieldOf (P .head .p)) wordOrder f
+      → {t : Term} {i n : ℕ} → StepRule wordOrder (basis P) f t i n
+      → Step (fieldOf (P .head .p)) wordOrder (family (basis P)) f (stepped (fieldOf (P .head .p)) wordOrder (basis P) f t i n)
   pub steps : (bytes text : List ℕ) (budget : ℕ) (P : Package) (f : Poly) → AcceptedAs bytes P → ReadAs P text f
       → (r : Reduction) → (reduction bytes text budget ≡ r) ↔ StepsEnd P f budget r
   -- its refusals are those of both services; the short form service adds 19 with the bytes required

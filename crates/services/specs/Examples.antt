@@ -1,5 +1,6 @@
--- Document 01's examples as rows of tables: what the services answer on these bytes, and which of two words is greater; and rows over GF(256).
--- That every row holds is proved in proofs/Examples.antt: `examples-hold`, `edges-hold` and `byte-rows-hold`.
+-- Document 01's examples as rows of tables: what the services answer on these bytes, and which of two words is greater; rows over GF(256), and
+-- rows with leading coefficients other than 1. That every row holds is proved in proofs/Examples.antt: `examples-hold`, `edges-hold`, `byte-rows-hold`
+-- and `scaled-rows-hold`.
 use mathlib.Core.Path.{_≡_}
 use mathlib.Core.List.{List, [], _∷_}
 use Prim.Native.Nat.{ℕ, _≤_, _<_}
@@ -187,4 +188,65 @@ byteRows =
     ∷ shortRow package256 "coef word\n1 ab\n1 ba\n" "coef word\n" 1
     ∷ memberRow package256 "coef word\n128 aa\n29 b\n" 1
     ∷ refusedRow package256 "coef word\n256 a\n" 4294967295 65536 16 2
+    ∷ []
+
+-- E with other leading coefficients: its first basis polynomial times 3, and its second times 5.
+unfoldable pub packageScaled : List ℕ
+unfolding text
+packageScaled = text (
+    ascii "p letters gens basis"
+    ∷ ascii "7 2 1 2"
+    ∷ ascii "kind item coef word"
+    ∷ ascii "G 1 1 aa"
+    ∷ ascii "G 1 6 b"
+    ∷ ascii "B 1 3 aa"
+    ∷ ascii "B 1 4 b"
+    ∷ ascii "B 2 5 ab"
+    ∷ ascii "B 2 2 ba"
+    ∷ ascii "kind item coef left of right"
+    ∷ ascii "B 1 3 - 1 -"
+    ∷ ascii "B 2 5 - 1 a"
+    ∷ ascii "B 2 2 a 1 -"
+    ∷ ascii "G 1 5 - 1 -"
+    ∷ ascii "O 1 3 - 2 -"
+    ∷ ascii "O 2 3 - 2 a"
+    ∷ ascii "O 2 5 b 1 -"
+    ∷ []
+    )
+
+-- The package over GF(256) with its first basis polynomial times 2 and its second times 4: 2 × 2 is 4, and the inverses of 2 and 4 are 142 and 71.
+unfoldable pub packageScaled256 : List ℕ
+unfolding text
+packageScaled256 = text (
+    ascii "p letters gens basis"
+    ∷ ascii "256 2 1 2"
+    ∷ ascii "kind item coef word"
+    ∷ ascii "G 1 1 aa"
+    ∷ ascii "G 1 2 b"
+    ∷ ascii "B 1 2 aa"
+    ∷ ascii "B 1 4 b"
+    ∷ ascii "B 2 4 ab"
+    ∷ ascii "B 2 4 ba"
+    ∷ ascii "kind item coef left of right"
+    ∷ ascii "B 1 2 - 1 -"
+    ∷ ascii "B 2 2 - 1 a"
+    ∷ ascii "B 2 2 a 1 -"
+    ∷ ascii "G 1 142 - 1 -"
+    ∷ ascii "O 1 142 - 2 -"
+    ∷ ascii "O 2 71 - 2 a"
+    ∷ ascii "O 2 142 b 1 -"
+    ∷ []
+    )
+
+-- Rows of them: the sums of an overlap equal the difference of the polynomials divided by their leading coefficients, and formulas come to the short
+-- forms that they have under E.
+unfoldable pub scaledRows : List Row
+scaledRows =
+    acceptedRow packageScaled 2
+    ∷ shortRow packageScaled "coef word\n1 aaa\n" "coef word\n1 ba\n" 1
+    ∷ shortRow packageScaled "coef word\n1 aba\n" "coef word\n1 bb\n" 2
+    ∷ shortRow packageScaled "coef word\n1 abab\n" "coef word\n1 bbb\n" 2
+    ∷ memberRow packageScaled "coef word\n1 aba\n6 bb\n" 2
+    ∷ acceptedRow packageScaled256 2
+    ∷ shortRow packageScaled256 "coef word\n128 aa\n" "coef word\n29 b\n" 1
     ∷ []

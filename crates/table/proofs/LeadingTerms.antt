@@ -8,9 +8,9 @@ use native.Mathlib.Omega.{arith}
 use lib.ListN.{length, List·getD-eq-default}
 use Rattle.algebra.specs.Poly.{Term, Poly}
 use Rattle.algebra.specs.Ideal.{family}
-use Rattle.algebra.specs.Groebner.{lead}
+use Rattle.algebra.specs.Groebner.{lead, leadCoef}
 use Rattle.working.specs.Working.{terms}
-use Rattle.table.specs.Table.{gensIn, basisCountIn, itemsIn, termsIn, firstIn, sizeIn, blocksIn}
+use Rattle.table.specs.Table.{gensIn, basisCountIn, itemsIn, termsIn, firstIn, coefIn, sizeIn, blocksIn}
 use Rattle.table.specs.Polynomials.{wordIn, termIn, polynomialIn, basisIn}
 use Rattle.table.specs.Tabled.{Tabled}
 use Rattle.table.proofs.WordSizes.{word-size}
@@ -29,10 +29,11 @@ number-in t (suc g) h = (omega arith, go (decLt (basisCountIn t) (suc g)))
         let k : length (basisIn t) ≤ g = omega arith in
         absurd (h (List·getD-eq-default (basisIn t) [] k))
 
-terms-first : (F : ℕ → Term) (i n : ℕ) → terms F i n ≢ [] → (0 < n) × (lead (terms F i n) ≡ F i .word)
-unfolding terms lead
+-- terms that are not zero lead with the first
+pub terms-first : (F : ℕ → Term) (i n : ℕ) → terms F i n ≢ [] → (0 < n) × (lead (terms F i n) ≡ F i .word) × (leadCoef (terms F i n) ≡ F i .coef)
+unfolding terms lead leadCoef
 terms-first F i zero h = absurd (h refl)
-terms-first F i (suc n) h = (omega arith, refl)
+terms-first F i (suc n) h = (omega arith, refl, refl)
 
 -- What is needed of the leading term of basis polynomial g.
 pub record LeadTerm (t : List ℕ) (g : ℕ) : Type 0 where
@@ -43,6 +44,7 @@ pub record LeadTerm (t : List ℕ) (g : ℕ) : Type 0 where
   pub inside : firstIn t (gensIn t + g) < termsIn t
   pub word : wordIn t (firstIn t (gensIn t + g)) ≡ lead (family (basisIn t) g)
   pub letters : length (lead (family (basisIn t) g)) ≡ sizeIn t (firstIn t (gensIn t + g)) % 256
+  pub coef : leadCoef (family (basisIn t) g) ≡ coefIn t (firstIn t (gensIn t + g))
 
 pub lead-term : (t : List ℕ) → Tabled t → (g : ℕ) → family (basisIn t) g ≢ [] → LeadTerm t g
 lead-term t T zero h = absurd (let q = number-in t zero h .0 in omega arith)
@@ -63,4 +65,5 @@ lead-term t T (suc k) h =
       inside = omega arith;
       word = sym (ap lead e ∙ f .1);
       letters = ap (λ (q : Poly). length (lead q)) e ∙ ap length (f .1) ∙ word-size t (sizeIn t i) (blocksIn t i);
+      coef = ap leadCoef e ∙ f .2;
     }

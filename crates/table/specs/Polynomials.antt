@@ -33,6 +33,6 @@ relationsIn t = polynomialsIn t 1 (gensIn t)
 abbrev pub basisIn : List ℕ → List Poly
 basisIn t = polynomialsIn t (gensIn t + 1) (basisCountIn t)
 
--- No polynomial of the basis is zero.
-abbrev pub BasisNonzero : List ℕ → Type 0
-BasisNonzero t = All (λ f. f ≢ []) (basisIn t)
+-- None of the polynomials is zero.
+abbrev pub NoneZero : List Poly → Type 0
+NoneZero ps = All (λ f. f ≢ []) ps

@@ -6,7 +6,7 @@ ghost use mathlib.Core.List.{List};
 ghost use Prim.Native.Nat.{ℕ, _+_, _/_, _≤_, _<_};
 ghost use lib.ListN.{take, drop};
 ghost use Rattle.packedwords.specs.Packed.{letterOf};
-ghost use Rattle.table.specs.Table.{tableSize, primeIn, lettersIn, gensIn, basisCountIn, keyIn, letterIn, firstIn, coefIn, sizeIn, blocksIn};
+ghost use Rattle.table.specs.Table.{tableSize, primeIn, lettersIn, gensIn, basisCountIn, keyIn, letterIn, inverseIn, firstIn, coefIn, sizeIn, blocksIn};
 ghost use Rattle.table.specs.Tabled.{Tabled};
 
 // The number that means the field.
@@ -52,6 +52,14 @@ pub fn letter_in(t: &Table, c: usize) -> u8
     ensures { λ r. ⌜ r ≡ letterIn (now (t .entry)) c ⌝ }
 {
     (t[48 + c] % 256) as u8
+}
+
+// The inverse of the leading coefficient of basis polynomial g, from 0.
+pub fn inverse_in(t: &Table, g: usize) -> u32
+    requires { ⌜ Tabled (now t) × (g < basisCountIn (now t)) ⌝ }
+    ensures { λ r. ⌜ (r ≡ inverseIn (now (t .entry)) g) × (r < primeIn (now (t .entry))) ⌝ }
+{
+    t[80 + g] as u32
 }
 
 // The number of item j's first term.

@@ -6,6 +6,7 @@ use itemadding::taking::take_item;
 use overlapwords::OverlapAt;
 use table::Table;
 use table::numbers::gens_in;
+use table::numbers::inverse_in;
 ghost use mathlib.Core.Path.{_≡_};
 ghost use Prim.Native.Nat.{_≤_, _<_};
 ghost use lib.ListN.{length};
@@ -22,7 +23,8 @@ ghost use Rattle.packedterms.specs.Formula.{formula, Room, Working};
 ghost use Rattle.tablesums.specs.Factors.{frontOf, behindOf};
 ghost use Rattle.tablesums.specs.ShortWords.{ShortWord};
 
-// Whatever the arrays hold, they then hold the difference of an overlap, whose factors are left and right. The answer is how many terms it has.
+// Whatever the arrays hold, they then hold the difference of an overlap, whose factors are left and right: each side is divided by its own leading
+// coefficient. The answer is how many terms it has.
 // buf is scratch.
 pub fn start_difference(
     t: &Table,
@@ -50,8 +52,11 @@ pub fn start_difference(
 {
     let none = [0u64; 6];
     let base = gens_in(t) + 1;
+    let x = inverse_in(t, f.first);
+    let y = inverse_in(t, f.second);
     let k = place_item(
         t,
+        x,
         &none,
         0,
         base + f.first,
@@ -65,7 +70,7 @@ pub fn start_difference(
     );
     take_item(
         t,
-        1,
+        y,
         left,
         sizes.left,
         base + f.second,

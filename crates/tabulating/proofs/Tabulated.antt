@@ -17,34 +17,36 @@ use Rattle.working.specs.Family.{between, polyBetween, familyAt, Runs}
 use Rattle.working.proofs.Terms.{terms-shift}
 use Rattle.working.proofs.Between.{between-length}
 use Rattle.table.specs.Table.{primeIn, lettersIn, gensIn, basisCountIn, termsIn, itemsIn, keyIn, firstIn}
-use Rattle.table.specs.Polynomials.{termIn, polynomialsIn, relationsIn, basisIn}
+use Rattle.table.specs.Polynomials.{termIn, polynomialsIn, relationsIn, basisIn, NoneZero}
 use Rattle.table.specs.Tabled.{Tabled}
 use Rattle.tabulating.specs.Filled.{Filled}
 use Rattle.tabulating.specs.Plain.{Plain}
 use Rattle.tabulating.specs.Rows.{headEntry, rowEntry}
+use Rattle.tabulating.specs.Leading.{inverseEntry}
 use Rattle.tabulating.specs.Lies.{WordsLie, Lies}
 use Rattle.tabulating.proofs.KeptKeys.{key-kept}
 use Rattle.tabulating.proofs.PlainKeys.{plain-kept, plain-keys, plain-suits}
 use Rattle.tabulating.proofs.RowEntries.{row-entry}
+use Rattle.tabulating.proofs.LeadingCoefs.{lead-is}
 use Rattle.tabulating.proofs.TermRows.{RowIs, coef-is, letters-are, held-is, coded-is, term-is}
 
 -- What the sections before the rows hold; and all sections.
-pub record Begun (h : Head) (m : ℕ) (firsts t : List ℕ) : Type 0 where
+pub record Begun (h : Head) (m : ℕ) (coefs firsts t : List ℕ) : Type 0 where
   pub size : length t ≡ 3424
   pub head : (k : ℕ) → k < 6 → getD t k 0 ≡ headEntry h m k
   pub plain : Plain t
-  pub inverses : (g : ℕ) → g < h .basis → getD t (80 + g) 0 ≡ 1
+  pub inverses : (g : ℕ) → g < h .basis → getD t (80 + g) 0 ≡ inverseEntry (h .p) coefs firsts (h .gens + 1) g
   pub starting : (j : ℕ) → j < h .gens + h .basis + 2 → getD t (208 + j) 0 ≡ getD firsts j 0
 
 pub record Sections (h : Head) (coefs starts lens bytes firsts : List ℕ) (m : ℕ) (t : List ℕ) : Type 0 where
-  pub begun : Begun h m firsts t
+  pub begun : Begun h m coefs firsts t
   pub rows : (k : ℕ) → k < 3 * m → getD t (352 + k) 0 ≡ rowEntry (keyIn t) coefs starts lens bytes k
 
 -- The sections before the rows, filled one after the other.
-pub begun-of : (h : Head) (m : ℕ) (firsts : List ℕ) {t₀ t₁ t₂ t₃ t : List ℕ} → h .gens ≤ 32 → h .basis ≤ 64 → length t₀ ≡ 3424
-    → Filled 0 6 (headEntry h m) t₀ t₁ → Plain t₂ → Filled 16 64 (λ k. getD t₂ (16 + k) 0) t₁ t₂ → Filled 80 (h .basis) (λ _. 1) t₂ t₃
-    → Filled 208 (h .gens + h .basis + 2) (λ j. getD firsts j 0) t₃ t → Begun h m firsts t
-begun-of h m firsts {t₁ = t₁} {t₂ = t₂} {t = t} few less e f₁ p f₂ f₃ f₄ = record {
+pub begun-of : (h : Head) (m : ℕ) (coefs firsts : List ℕ) {t₀ t₁ t₂ t₃ t : List ℕ} → h .gens ≤ 32 → h .basis ≤ 64 → length t₀ ≡ 3424
+    → Filled 0 6 (headEntry h m) t₀ t₁ → Plain t₂ → Filled 16 64 (λ k. getD t₂ (16 + k) 0) t₁ t₂ → Filled 80 (h .basis) (inverseEntry (h .p) coefs firsts (h .gens + 1)) t₂ t₃
+    → Filled 208 (h .gens + h .basis + 2) (λ j. getD firsts j 0) t₃ t → Begun h m coefs firsts t
+begun-of h m coefs firsts {t₁ = t₁} {t₂ = t₂} {t = t} few less e f₁ p f₂ f₃ f₄ = record {
   size = f₄ .size ∙ f₃ .size ∙ f₂ .size ∙ f₁ .size ∙ e;
   head = λ k l. f₄ .below k (omega arith) ∙ f₃ .below k (omega arith) ∙ f₂ .below k (omega arith)
       ∙ ap (λ (x : ℕ). getD t₁ x 0) (sym (zero-add k)) ∙ f₁ .inside k l;
@@ -54,7 +56,7 @@ begun-of h m firsts {t₁ = t₁} {t₂ = t₂} {t = t} few less e f₁ p f₂ f
 }
 
 -- And the rows behind them.
-pub sections-of : {h : Head} {m : ℕ} {firsts t u : List ℕ} (coefs starts lens bytes : List ℕ) → h .gens ≤ 32 → h .basis ≤ 64 → Begun h m firsts t
+pub sections-of : {h : Head} {m : ℕ} {firsts t u : List ℕ} (coefs starts lens bytes : List ℕ) → h .gens ≤ 32 → h .basis ≤ 64 → Begun h m coefs firsts t
     → Filled 352 (3 * m) (rowEntry (keyIn t) coefs starts lens bytes) t u → Sections h coefs starts lens bytes firsts m u
 sections-of {t = t} {u = u} coefs starts lens bytes few less b f = record {
   begun = record {
@@ -84,7 +86,7 @@ module _ {firsts : List ℕ} {base n m : ℕ} (r : Runs firsts base n m) (j : �
   few-at = rw (number, add-one j) at (r .few (j - base) (omega arith))
 
 module _ {h : Head} {coefs starts lens bytes firsts : List ℕ} {m : ℕ} {t : List ℕ} (l : Lies h coefs starts lens bytes firsts m)
-    (s : Sections h coefs starts lens bytes firsts m t) where
+    (nz : NoneZero (familyAt coefs starts lens bytes firsts (h .gens + 1) (h .basis))) (s : Sections h coefs starts lens bytes firsts m t) where
   -- The head.
 
   pub prime-is : primeIn t ≡ h .p
@@ -181,7 +183,6 @@ module _ {h : Head} {coefs starts lens bytes firsts : List ℕ} {m : ℕ} {t : L
         field = rw prime-is (l .field);
         suits = plain-suits t (s .begun .plain);
         keys = keys;
-        inverses = λ g q. s .begun .inverses g (omega (arith, basis-count-is));
         small = λ i q. rw (coef-is t keys i _ _ (row-is i (below i q)), prime-is) (l .terms .small i (below i q));
         short = λ i q. rw (letters-are t keys i _ _ (row-is i (below i q))) (row-is i (below i q) .short);
         held = λ i q. held-is t keys i _ _ (row-is i (below i q));
@@ -194,6 +195,10 @@ module _ {h : Head} {coefs starts lens bytes firsts : List ℕ} {m : ℕ} {t : L
             (item (λ (j : ℕ). getD firsts (suc j) 0 ≤ getD firsts j 0 + 48) (few-at (l .relation-runs)) (few-at (l .basis-runs)) j o k);
         relations-written = rw (prime-is, relations-are) (l .relations-written);
         basis-written = rw (prime-is, basis-is) (l .basis-written);
+        nonzero = rw basis-is nz;
+        inverses = λ g q.
+            let h′ : g < h .basis = omega (arith, basis-count-is) in
+            s .begun .inverses g h′ ∙ rw (prime-is, basis-is, lead-is coefs starts lens bytes firsts (l .terms) (l .basis-runs) nz g h′);
       }
 
 -- Words that lie in slices, from the terms that do.

@@ -2,4 +2,5 @@
 pub mod Filled
 pub mod Plain
 pub mod Rows
+pub mod Leading
 pub mod Lies

@@ -12,11 +12,11 @@ ghost use Prim.Native.Nat.{_+_};
 ghost use lib.ListN.{length};
 ghost use Rattle.working.specs.Family.{familyAt};
 ghost use Rattle.table.specs.Table.{primeIn, lettersIn, gensIn, basisCountIn};
-ghost use Rattle.table.specs.Polynomials.{relationsIn, basisIn};
+ghost use Rattle.table.specs.Polynomials.{relationsIn, basisIn, NoneZero};
 ghost use Rattle.table.specs.Tabled.{Tabled};
 ghost use Rattle.tabulating.specs.Lies.{Lies};
 
-// Fills t with the package of head h and m terms that lies in the slices.
+// Fills t with the package of head h and m terms that lies in the slices, where no basis polynomial is zero.
 pub fn tabulate(
     t: &mut Table,
     h: Head,
@@ -29,6 +29,7 @@ pub fn tabulate(
 )
     requires { ⌜ length (now t) ≡ 3424 ⌝ }
     requires { ⌜ Lies h (now coefs) (now starts) (now lens) (now bytes) (now firsts) m ⌝ }
+    requires { ⌜ NoneZero (familyAt (now coefs) (now starts) (now lens) (now bytes) (now firsts) (h .gens + 1) (h .basis)) ⌝ }
     ensures { λ _. ⌜ Tabled (now (t .exit)) ⌝ }
     ensures { λ _. ⌜ (primeIn (now (t .exit)) ≡ h .p) × (lettersIn (now (t .exit)) ≡ h .letters) ⌝ }
     ensures { λ _. ⌜ (gensIn (now (t .exit)) ≡ h .gens) × (basisCountIn (now (t .exit)) ≡ h .basis) ⌝ }
@@ -45,7 +46,7 @@ pub fn tabulate(
     let basis = h.basis as usize;
     put_head(t, h, m);
     put_keys(t);
-    put_inverses(t, basis);
+    put_inverses(t, h.p, coefs, firsts, gens + 1, basis);
     put_firsts(t, firsts, gens + basis + 2);
     put_rows(t, coefs, starts, lens, bytes, m);
 }

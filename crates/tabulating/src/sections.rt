@@ -1,5 +1,6 @@
 // The sections that stand before the rows of the terms.
 
+use field::arithmetic::inv;
 use package::Head;
 use table::Table;
 ghost use mathlib.Core.Path.{_≡_};
@@ -7,6 +8,7 @@ ghost use Prim.Native.Nat.{_+_, _-_, _≤_};
 ghost use lib.ListN.{length, getD};
 ghost use Rattle.tabulating.specs.Filled.{Filled};
 ghost use Rattle.tabulating.specs.Plain.{Plain};
+ghost use Rattle.tabulating.specs.Leading.{Leading, inverseEntry};
 ghost use Rattle.tabulating.specs.Rows.{headEntry};
 
 // The head: the numbers of h, and that there are m terms.
@@ -44,14 +46,16 @@ pub fn put_keys(t: &mut Table)
     put_falling(t, 48, 32, 379);
 }
 
-// The inverses of the leading coefficients of n basis polynomials: all are 1.
-pub fn put_inverses(t: &mut Table, n: usize)
-    requires { ⌜ (length (now t) ≡ 3424) × (n ≤ 64) ⌝ }
-    ensures { λ _. ⌜ Filled 80 n (λ _. 1) (now (t .entry)) (now (t .exit)) ⌝ }
+// The inverses of the leading coefficients of n basis polynomials, which start from entry base of firsts on.
+pub fn put_inverses(t: &mut Table, p: u32, coefs: &[u32], firsts: &[usize], base: usize, n: usize)
+    requires { ⌜ (length (now t) ≡ 3424) × (n ≤ 64) × (base + n ≤ length (now firsts)) × (p ≤ 65536) ⌝ }
+    requires { ⌜ Leading p (now coefs) (now firsts) base n ⌝ }
+    ensures { λ _. ⌜ Filled 80 n (inverseEntry p (now (coefs .entry)) (now (firsts .entry)) base) (now (t .entry)) (now (t .exit)) ⌝ }
 {
     let mut g = 0;
     while g < n {
-        t[80 + g] = 1;
+        let a = firsts[base + g];
+        t[80 + g] = inv(p, coefs[a]) as u64;
         g += 1;
     }
 }

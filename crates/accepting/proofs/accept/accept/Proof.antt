@@ -3,11 +3,11 @@ use mathlib.Core.Path.{_≡_}
 use native.Mathlib.Omega.{arith}
 use lib.ListN.{length}
 use Rattle.package.specs.Held.{seenAll}
+use Rattle.acceptance.proofs.BasisFacts.{fine-nonzero}
 use Rattle.basis.proofs.BasisAnswers.{basis-refused, basis-sound, heads-sound}
 use Rattle.accepting.specs.Accepted.{Accepts}
 use Rattle.accepting.proofs.PackageRead.{PackageRead, answered, unread-refused}
 use Rattle.accepting.proofs.PackageTable.{unsound-refused, begins-in, heads-in, rejected-refused, accepted-taken}
-use Rattle.accepting.proofs.SoundBasis.{sound-nonzero}
 use borrow.Author.Needs.{needs}
 use Rattle.accepting.proofs.accept.accept.Statement.{statement}
 use Rattle.accepting.proofs.accept.accept.Tie as tie
@@ -126,7 +126,8 @@ slice-aggregate-tabulate-4 c = search needs
 tabulate-requires : tie.Need-tabulate-requires
 tabulate-requires c κs =
     let j = c .before .before .before .before .before .before .before .before .before in
-    (begun (was-read (whole j)) .pre .0, is-read (whole j) .lies)
+    let sound = basis-sound _ _ (j .judge-basis .ensures .0) (c .before .before .before .before .before .enum-told .given .1) in
+    (begun (was-read (whole j)) .pre .0, (is-read (whole j) .lies, fine-nonzero _ sound))
 
 slice-aggregate-check : tie.Need-slice-aggregate-check
 slice-aggregate-check c = search needs
@@ -147,7 +148,7 @@ check-requires c κs =
     let q = e .1 .1 .0 in
     let rs = e .1 .1 .1 .0 in
     let ps = e .1 .1 .1 .1 in (
-      (e .0, heads-in r (e .0) (p .0) (p .1) (q .0) (q .1) rs ps sound _ _ heads, sound-nonzero _ _ ps sound),
+      (e .0, heads-in r (e .0) (p .0) (p .1) (q .0) (q .1) rs ps sound _ _ heads),
       (begins-in r (e .0) (p .0) (p .1) (q .0) (q .1) rs ps sound, begun (was-read (whole j)) .pre .1),
     )
 

@@ -1,8 +1,6 @@
 -- `judge_basis` judges refusals 8 and 9. The loop's invariant: what is left to judge gives the verdict of refusal 8, and the leading words before are laid.
 use borrow.Author.Needs.{needs}
-use borrow.Author.Tests.{eqb-true, eqb-false, not-true, not-false}
 use mathlib.Core.Path.{_≡_, sym, _∙_}
-use mathlib.Core.Logic.{⊎-elim}
 use Prim.Native.Nat.{_+_, _-_, _≤_}
 use native.Mathlib.Omega.{arith}
 use lib.ListN.{length, getD}
@@ -12,7 +10,7 @@ use Rattle.basis.specs.Heads.{HeadsOf}
 use Rattle.basis.specs.Answer.{basisVerdict, HeadsWhere}
 use Rattle.basis.proofs.ToldNumbers.{told-refused, told-fine}
 use Rattle.basis.proofs.BasisAnswers.{lead-judged, apart-told}
-use Rattle.basis.proofs.LeadingHeads.{Filled, filled-none, filled-next, leads-start, leads-zero, leads-other, leads-next, leads-end, heads-of, start-within, length-within}
+use Rattle.basis.proofs.LeadingHeads.{Filled, filled-none, filled-next, leads-start, leads-zero, leads-next, leads-end, heads-of, start-within, length-within}
 use Rattle.basis.proofs.basis.judge_basis.Statement.{statement}
 use Rattle.basis.proofs.basis.judge_basis.Tie as tie
 
@@ -81,14 +79,8 @@ mul-b c = omega (arith, start (c .before .before) .pre .0 .runs .marks)
 shared-slice-read-b : tie.Need-shared-slice-read-b Inv-loop μ-loop
 shared-slice-read-b c = omega (arith, start (c .before .before .before) .pre .0 .runs .marks)
 
-mul-if2 : tie.Need-mul-if2 Inv-loop μ-loop
-mul-if2 c = let i = c .before .before .before in omega (arith, start (i .before) .pre .0 .terms .coefs-hold, ends i)
-
-shared-slice-read-if2 : tie.Need-shared-slice-read-if2 Inv-loop μ-loop
-shared-slice-read-if2 c = let i = c .before .before .before .before in omega (arith, start (i .before) .pre .0 .terms .coefs-hold, ends i)
-
-add-t26 : tie.Need-add-t26 Inv-loop μ-loop
-add-t26 c = search needs
+add-t21 : tie.Need-add-t21 Inv-loop μ-loop
+add-t21 c = search needs
 
 same-length : tie.Need-same-length Inv-loop μ-loop
 same-length c = search needs
@@ -101,24 +93,18 @@ unfolding basisVerdict HeadsWhere
 returns c =
     let i = c .before .before .before in
     let l = i .before .loop in
-    let L = start (i .before) .pre .0 in (
-      lead-judged _ _ (⊎-elim
-          (λ t. leads-zero _ _ _ _ _ _ _ L (l .g) (i .loop-test .taken) (t .taken))
-          (λ t. leads-other _ _ _ _ _ _ _ L (l .g) (i .loop-test .taken) (t .0 .left) (eqb-false _ 1 (not-true _ (t .2 .taken))))
-          (c .if1 .came) ∙ l .inv .3),
-      tt,
-    )
+    (lead-judged _ _ (leads-zero _ _ _ _ _ _ _ (start (i .before) .pre .0) (l .g) (i .loop-test .taken) (c .if1 .taken) ∙ l .inv .3), tt)
 
 mul-heads : tie.Need-mul-heads Inv-loop μ-loop
-mul-heads c = let i = c .before .before .before .before .before in omega (arith, start (i .before) .pre .0 .terms .starts-hold, ends i)
+mul-heads c = let i = c .before .before .before in omega (arith, start (i .before) .pre .0 .terms .starts-hold, ends i)
 
 shared-slice-read-heads : tie.Need-shared-slice-read-heads Inv-loop μ-loop
-shared-slice-read-heads c = let i = c .before .before .before .before .before .before in omega (arith, start (i .before) .pre .0 .terms .starts-hold, ends i)
+shared-slice-read-heads c = let i = c .before .before .before .before in omega (arith, start (i .before) .pre .0 .terms .starts-hold, ends i)
 
 cast-heads : tie.Need-cast-heads Inv-loop μ-loop
 cast-heads c =
-    let i = c .before .before .before .before .before .before in
-    let q = start-within _ _ _ _ _ _ _ (start (i .before) .pre .0) (i .before .loop .g) (i .loop-test .taken) (c .before .before .before .if1 .left) in
+    let i = c .before .before .before .before in
+    let q = start-within _ _ _ _ _ _ _ (start (i .before) .pre .0) (i .before .loop .g) (i .loop-test .taken) (c .before .if1 .left) in
     search needs
 
 mul-heads-2 : tie.Need-mul-heads-2 Inv-loop μ-loop
@@ -128,12 +114,12 @@ slice-write-heads : tie.Need-slice-write-heads Inv-loop μ-loop
 slice-write-heads c = search needs
 
 shared-slice-read-headlens : tie.Need-shared-slice-read-headlens Inv-loop μ-loop
-shared-slice-read-headlens c = let i = c .before .before .before .before .before .before .before in omega (arith, start (i .before) .pre .0 .terms .lens-hold, ends i)
+shared-slice-read-headlens c = let i = c .before .before .before .before .before in omega (arith, start (i .before) .pre .0 .terms .lens-hold, ends i)
 
 cast-headlens : tie.Need-cast-headlens Inv-loop μ-loop
 cast-headlens c =
-    let i = c .before .before .before .before .before .before .before in
-    let q = length-within _ _ _ _ _ _ _ (start (i .before) .pre .0) (i .before .loop .g) (i .loop-test .taken) (c .before .before .before .before .if1 .left) in
+    let i = c .before .before .before .before .before in
+    let q = length-within _ _ _ _ _ _ _ (start (i .before) .pre .0) (i .before .loop .g) (i .loop-test .taken) (c .before .before .if1 .left) in
     search needs
 
 mul-headlens : tie.Need-mul-headlens Inv-loop μ-loop
@@ -150,11 +136,11 @@ loop-less c = search needs
 
 loop-again : tie.Need-loop-again Inv-loop μ-loop
 loop-again c =
-    let i = c .before .before .before .before .before .before .before in
+    let i = c .before .before .before .before .before in
     let s = start (i .before) in
     let l = i .before .loop in
     let t = i .loop-test .taken in
-    let f = c .before .before .before .before .if1 .left in
+    let f = c .before .before .if1 .left in
     let u = s .pre .1 .0 in
     let v = s .pre .1 .1 in
     let x = l .inv .1 in
@@ -162,7 +148,7 @@ loop-again c =
       search needs,
       search needs,
       search needs,
-      leads-next _ _ _ _ _ _ _ (s .pre .0) (l .g) t f (eqb-true _ 1 (not-false _ (c .before .before .if2 .left))) ∙ l .inv .3,
+      leads-next _ _ _ _ _ _ _ (s .pre .0) (l .g) t f ∙ l .inv .3,
       filled-next _ _ _ _ _ _ _ (s .pre .0) (l .g) t _ _ (omega arith) (omega arith) f (l .inv .4),
     )
 
@@ -179,7 +165,7 @@ returns-2 : tie.Need-returns-2 Inv-loop μ-loop
 unfolding basisVerdict HeadsWhere
 returns-2 c =
     let i = c .before .before .before .before in
-    (sym (told-refused 9 _ (c .if3 .taken)) ∙ apart-told _ (led i) _ (laid i .leading) _ (c .before .first-holding .ensures), tt)
+    (sym (told-refused 9 _ (c .if2 .taken)) ∙ apart-told _ (led i) _ (laid i .leading) _ (c .before .first-holding .ensures), tt)
 
 same-length-5 : tie.Need-same-length-5 Inv-loop μ-loop
 same-length-5 c = search needs
@@ -191,7 +177,7 @@ returns-3 : tie.Need-returns-3 Inv-loop μ-loop
 unfolding basisVerdict HeadsWhere
 returns-3 c =
     let i = c .before .before .before .before in
-    (sym (told-fine 9 _ .1 (c .if3 .left)) ∙ apart-told _ (led i) _ (laid i .leading) _ (c .before .first-holding .ensures), laid i)
+    (sym (told-fine 9 _ .1 (c .if2 .left)) ∙ apart-told _ (led i) _ (laid i .leading) _ (c .before .first-holding .ensures), laid i)
 
 pub judge-basis-spec : {M : Type 1} → statement M
 judge-basis-spec =
@@ -207,9 +193,7 @@ judge-basis-spec =
     add-b-2
     mul-b
     shared-slice-read-b
-    mul-if2
-    shared-slice-read-if2
-    add-t26
+    add-t21
     same-length
     same-length-2
     returns

@@ -1,30 +1,31 @@
--- `place_item` is the product. The loop's invariant: what is held, and behind it the product of the terms that are left, is the whole.
+-- `place_item` is the multiple. The loop's invariant: what is held, and behind it the multiple of the terms that are left, is the whole.
 use mathlib.Core.Path.{_≡_, ap, ap₂, _∙_}
 use mathlib.Core.List.{_++_}
 use Prim.Native.Nat.{ℕ, suc, _-_, _<_}
 use native.Mathlib.Numerals.{add-one}
 use native.Mathlib.Omega.{arith}
-use Rattle.algebra.specs.Poly.{shift}
+use Rattle.algebra.specs.Poly.{scale, shift}
 use Rattle.working.specs.Working.{terms}
 use Rattle.table.specs.Polynomials.{termIn}
-use Rattle.table.specs.Table.{firstIn}
+use Rattle.table.specs.Table.{fieldIn, firstIn}
 use Rattle.table.specs.Words.{wordOf}
 use Rattle.packedterms.specs.Formula.{formula, Holds}
 use Rattle.packedterms.proofs.Places.{entry-place, holds-none}
 use Rattle.packedterms.proofs.NewTerm.{before-holds, before-formula}
-use Rattle.itemadding.proofs.Products.{product, placed-none, placed-next, placed-end, Placing}
+use Rattle.itemadding.proofs.Products.{placed-none, placed-next, placed-end, Placing}
+use Rattle.itemadding.proofs.Sums.{rest}
 use borrow.Author.Needs.{needs}
 use Rattle.itemadding.proofs.placing.place_item.Statement.{statement}
 use Rattle.itemadding.proofs.placing.place_item.Tie as tie
 
 abbrev Inv-loop : tie.InvT-loop
-Inv-loop t left a item right b c₀ l₀ w₀ o₀ buf₀ first end i₀ k₀ c l w o buf i k =
+Inv-loop t x left a item right b c₀ l₀ w₀ o₀ buf₀ first end i₀ k₀ c l w o buf i k =
     Placing t first end i k buf
     × Holds t c l w o k
-    × (formula t c l w o k ++ product t (wordOf t a left) (wordOf t b right) end i ≡ product t (wordOf t a left) (wordOf t b right) end first)
+    × (formula t c l w o k ++ rest t x (wordOf t a left) (wordOf t b right) end i ≡ rest t x (wordOf t a left) (wordOf t b right) end first)
 
 abbrev μ-loop : tie.MeasureT-loop
-μ-loop t left a item right b c₀ l₀ w₀ o₀ buf₀ first end i₀ k₀ c l w o buf i k = end - i
+μ-loop t x left a item right b c₀ l₀ w₀ o₀ buf₀ first end i₀ k₀ c l w o buf i k = end - i
 
 -- the start, from the place before the loop, and where the item's terms end
 abbrev start : tie.After-first-in2 Inv-loop μ-loop → tie.Start Inv-loop μ-loop
@@ -47,7 +48,7 @@ loop-holds c =
     let z = start c in
     let a = z .args in
     let t′ = a .t .now in
-    let (t, some, item, nine) = z .pre .0 in
+    let (t, small, some, item, nine) = z .pre .0 in
     let x = t .rising (z .args .item) some item in
     let y = t .most (z .args .item) some item in
     let w = t .few (z .args .item) some item in
@@ -55,13 +56,13 @@ loop-holds c =
     let v = end-is c in (
       record { most = omega arith; few = omega arith; low = omega arith; count = omega arith; nine = nine },
       holds-none _ _ _ _ _ (z .pre .1 .1 .0) (z .pre .1 .1 .1),
-      placed-none t′ (wordOf t′ (a .a) (a .left .now)) (wordOf t′ (a .b) (a .right .now)) (c .first-in2 .result) _ (c .before .first-in .result),
+      placed-none t′ (a .x) (wordOf t′ (a .a) (a .left .now)) (wordOf t′ (a .b) (a .right .now)) (c .first-in2 .result) _ (c .before .first-in .result),
     )
 
-coef-in-requires : tie.Need-coef-in-requires Inv-loop μ-loop
-coef-in-requires c κs =
-    let q = start (c .before .before) .pre .0 .0 .terms in
-    omega (arith, c .loop-test .taken, c .before .loop .inv .0)
+scaled-coef-requires : tie.Need-scaled-coef-requires Inv-loop μ-loop
+scaled-coef-requires c κs =
+    let z = start (c .before .before) in
+    (z .pre .0 .0, z .pre .0 .1, omega (arith, c .loop-test .taken, c .before .loop .inv .0 .most))
 
 build-requires : tie.Need-build-requires Inv-loop μ-loop
 build-requires c κs =
@@ -118,7 +119,7 @@ loop-again c =
     let more = before-formula _ _ _ _ _ _ _ _ _ _ _ _ _ _ held free (omega arith) built put in (
       record { most = g .most; few = g .few; low = omega arith; count = omega (arith, g .count); nine = built .nine },
       before-holds _ _ _ _ _ _ _ _ _ _ _ _ _ _ held free (omega arith) built put,
-      placed-next t′ left right (f .first-in2 .result) _ _ _ (m .i) (m .k) _ _ t sum (x .coef-in .ensures) (b .build .ensures .1) more,
+      placed-next t′ (a .x) left right (f .first-in2 .result) _ _ _ (m .i) (m .k) _ _ t sum (x .scaled-coef .ensures .0) (b .build .ensures .1) more,
     )
 
 returns : tie.Need-returns Inv-loop μ-loop
@@ -130,9 +131,9 @@ returns c =
     let g = m .loop .inv .0 in
     let left = wordOf t (a .a) (a .left .now) in
     let right = wordOf t (a .b) (a .right .now) in
-    let whole = placed-end t left right (f .first-in2 .result)
+    let whole = placed-end t (a .x) left right (f .first-in2 .result)
     (formula t (m .loop .c) (m .loop .l) (m .loop .w) (m .loop .o) (m .loop .k)) _ (m .loop .i) (c .loop-test .left) (m .loop .inv .2) in
-    let range = ap₂ (λ (x y : ℕ). shift left right (terms (termIn t) x (y - x))) (f .before .first-in .ensures) (end-is f) in
+    let range = ap₂ (λ (i j : ℕ). scale (fieldIn t) (a .x) (shift left right (terms (termIn t) i (j - i)))) (f .before .first-in .ensures) (end-is f) in
     ((omega (arith, g .few, g .low, g .count), g .nine), (m .loop .inv .1, whole ∙ range))
 
 pub place-item-spec : {M : Type 1} → statement M
@@ -145,7 +146,7 @@ place-item-spec =
     add-first-in
     first-in-requires-2
     loop-holds
-    coef-in-requires
+    scaled-coef-requires
     build-requires
     put-before-requires
     add-i

@@ -5,6 +5,7 @@ use mathlib.Core.Bool.{true, false}
 use Prim.Native.Nat.{_+_, _-_, _≤_, _<_}
 use native.Mathlib.Omega.{arith}
 use lib.ListN.{length}
+use Rattle.field.proofs.Fields.{below-of}
 use Rattle.algebra.specs.Ideal.{family}
 use Rattle.working.specs.Working.{Arranged}
 use Rattle.working.proofs.Terms.{terms-length}
@@ -147,7 +148,7 @@ place-item-requires c κs =
     let most = items k .target-in (top x .items .g + 1) (omega arith) in
     let first : 1 ≤ target = omega arith in
     let fit = short-fits (s .args .t .now) (s .pre .0) 0 0 target (none .short .few) (none .short .few) first most in
-    ((s .pre .0, first, most, i .3), ((none .short .six, none .short .six, fit), (i .4, i .5)))
+    ((s .pre .0, below-of _ (s .pre .0 .field .one-lt), first, most, i .3), ((none .short .six, none .short .six, fit), (i .4, i .5)))
 
 loop-holds : tie.Need-loop-holds Inv-loop μ-loop Inv-items μ-items
 loop-holds c =
@@ -159,7 +160,7 @@ loop-holds c =
     let d = c .place-item .ensures in
     let few = d .0 .0 in
     let none = empty-short (s .args .t .now) in
-    let e = target-placed (items k) (top x .items .g + 1) (omega arith) (omega arith) _ _ (none .word) (none .word) _ (d .1 .1) in (
+    let e = target-placed (items k) (s .pre .0) (top x .items .g + 1) (omega arith) (omega arith) _ _ (none .word) (none .word) _ (d .1 .1) in (
       omega arith,
       i .1,
       i .2,

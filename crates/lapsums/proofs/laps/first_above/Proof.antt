@@ -14,9 +14,9 @@ basis-in-requires c κs = search needs
 
 count-overlaps-requires : tie.Need-count-overlaps-requires
 count-overlaps-requires c κs =
-    let (tabled, heads, nonzero) = (c .before .before .before .before) .pre .0 in
+    let (tabled, heads) = (c .before .before .before .before) .pre .0 in
     let e = c .basis-in .ensures in
-    (count-laid heads e, (count-few tabled e, count-short heads e tabled nonzero))
+    (count-laid heads e, (count-few tabled e, count-short heads e tabled))
 
 judge-items-requires : tie.Need-judge-items-requires
 judge-items-requires c κs =

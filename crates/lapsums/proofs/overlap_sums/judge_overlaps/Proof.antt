@@ -110,7 +110,7 @@ abbrev opened : tie.At-loop Inv-loop μ-loop Inv-items μ-items → tie.Start In
 opened m = start (counted (outer m))
 
 short : (b : tie.After-basis-in Inv-loop μ-loop Inv-items μ-items) → AtMost24 (start b .args .headlens .now) (b .basis-in .result)
-short b = let (tabled, heads, nonzero) = start b .pre .0 in count-short heads (b .basis-in .ensures) tabled nonzero
+short b = let (tabled, heads) = start b .pre .0 in count-short heads (b .basis-in .ensures) tabled
 
 few : (b : tie.After-basis-in Inv-loop μ-loop Inv-items μ-items) → b .basis-in .result ≤ 64
 few b = count-few (start b .pre .0 .0) (b .basis-in .ensures)
@@ -186,7 +186,7 @@ start-lap-requires c κs =
     let x = c .before .before .before .before .before in
     let m = top x in
     let b = counted m in
-    let (tabled, heads, _) = start b .pre .0 in
+    let (tabled, heads) = start b .pre .0 in
     let i = m .items .inv in
     let lapped = count-lapped heads (b .basis-in .ensures) _ (i .6 .found (x .items-test .taken)) in
     ((tabled, lapping heads _ lapped, i .2), (i .4, i .5))
@@ -219,11 +219,11 @@ is-under-requires c κs =
     let p = c .before .before .before .before in
     let x = entered p in
     let m = turn x in
-    let (tabled, _, nonzero) = opened m .pre .0 in
+    let tabled = opened m .pre .0 .0 in
     let i = m .loop .inv in
     let n = names x in
     let (l, r) = p .pack-sides .ensures in
-    ((tabled, basis-leads _ nonzero _ (n .0) (n .1), begun m .start-lap .ensures .0 .1, i .3), (l .short, r .short))
+    ((tabled, basis-leads _ tabled _ (n .0) (n .1), begun m .start-lap .ensures .0 .1, i .3), (l .short, r .short))
 
 add-j : tie.Need-add-j Inv-loop μ-loop Inv-items μ-items
 add-j c =

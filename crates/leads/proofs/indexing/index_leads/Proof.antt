@@ -30,7 +30,7 @@ add-base c =
     search needs
 
 loop-holds : tie.Need-loop-holds Inv-loop μ-loop
-loop-holds c = (omega arith, c .before .basis-in .ensures, search needs, codes-blank (c .before .before .pre .1 .1))
+loop-holds c = (omega arith, c .before .basis-in .ensures, search needs, codes-blank (c .before .before .pre .1))
 
 add-first-in : tie.Need-add-first-in Inv-loop μ-loop
 add-first-in c = search needs
@@ -43,7 +43,7 @@ size-in-requires c κs =
     let m = c .before .before .loop in
     let z = c .before .before .before .before .before in
     let h = z .pre .0 in
-    let i = term-inside (z .args .t .now) (m .g) _ _ 0 (m .inv .2) (c .first-in .ensures) h (z .pre .1 .0) (omega arith) in
+    let i = term-inside (z .args .t .now) (m .g) _ _ 0 (m .inv .2) (c .first-in .ensures) h (omega arith) in
     let k = h .terms in
     omega arith
 
@@ -53,7 +53,7 @@ mark-pairs-requires c κs =
     let m = f .before .before .loop in
     let z = f .before .before .before .before .before in
     let h = z .pre .0 in
-    let i = term-inside (z .args .t .now) (m .g) _ _ 0 (m .inv .2) (f .first-in .ensures) h (z .pre .1 .0) (omega arith) in
+    let i = term-inside (z .args .t .now) (m .g) _ _ 0 (m .inv .2) (f .first-in .ensures) h (omega arith) in
     let k = h .terms in
     let s = h .short _ i in
     let e = c .before .size-in .ensures in
@@ -65,7 +65,7 @@ mark-rows-requires c κs =
     let m = f .before .before .loop in
     let z = f .before .before .before .before .before in
     let h = z .pre .0 in
-    let i = term-inside (z .args .t .now) (m .g) _ _ 0 (m .inv .2) (f .first-in .ensures) h (z .pre .1 .0) (omega arith) in
+    let i = term-inside (z .args .t .now) (m .g) _ _ 0 (m .inv .2) (f .first-in .ensures) h (omega arith) in
     let k = h .terms in
     let b = h .basis in
     let s = h .short _ i in
@@ -95,7 +95,7 @@ returns c =
     let z = c .before .before .before .before in
     let t = z .args .t .now in
     let e = lead-codes-length t (gensIn t + 1) (basisCountIn t) in
-    codes-done (m .g) (omega (arith, m .inv .0, m .inv .1, c .loop-test .left, e)) (leads-indexable t (z .pre .0) (z .pre .1 .0)) (m .inv .3)
+    codes-done (m .g) (omega (arith, m .inv .0, m .inv .1, c .loop-test .left, e)) (leads-indexable t (z .pre .0)) (m .inv .3)
 
 pub index-leads-spec : {M : Type 1} → statement M
 index-leads-spec =

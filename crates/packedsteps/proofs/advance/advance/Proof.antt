@@ -31,7 +31,7 @@ returns c =
     let s = q .before .before .before .before in
     let a = s .args in
     let t = a .t .now in
-    let first = rw (x .next .given .1) at (q .find-target .ensures (leadCodesIn t) (s .pre .0 .1 .indexed)) in (
+    let first = rw (x .next .given .1) at (q .find-target .ensures (leadCodesIn t) (s .pre .0 .1)) in (
       (c .if1 .taken, pending t (s .pre .0 .0) (a .index .now) (s .pre .0 .1) (a .c .now) (a .l .now) (a .w .now) (a .o .now) (a .n) (s .pre .1 .0 .0) (a .from) (s .pre .1 .0 .1) _ _ _ first),
       s .pre .1 .1,
     )
@@ -43,7 +43,7 @@ step-requires c κs =
     let s = q .before .before .before .before in
     let a = s .args in
     let t = a .t .now in
-    let first = rw (x .next .given .1) at (q .find-target .ensures (leadCodesIn t) (s .pre .0 .1 .indexed)) in
+    let first = rw (x .next .given .1) at (q .find-target .ensures (leadCodesIn t) (s .pre .0 .1)) in
     let few = s .pre .0 .3 in
     let inside = told-inside t (s .pre .0 .0) (a .index .now) (s .pre .0 .1) (a .c .now) (a .l .now) (a .w .now) (a .o .now) (a .n) (s .pre .1 .0 .0) (a .from) (s .pre .1 .0 .1) _ _ _ first in
     let at = told-spot t (s .pre .0 .0) (a .index .now) (s .pre .0 .1) (a .c .now) (a .l .now) (a .w .now) (a .o .now) (a .n) (s .pre .1 .0 .0) (a .from) (s .pre .1 .0 .1) _ _ _ first in
@@ -60,7 +60,7 @@ returns-2 c =
     let s = q .before .before .before .before in
     let a = s .args in
     let t = a .t .now in
-    let first = rw (x .next .given .1) at (q .find-target .ensures (leadCodesIn t) (s .pre .0 .1 .indexed)) in
+    let first = rw (x .next .given .1) at (q .find-target .ensures (leadCodesIn t) (s .pre .0 .1)) in
     let within = s .pre .0 .2 in
     let other = e .if1 .left in
     let more : a .used < a .budget = omega arith in
@@ -79,7 +79,7 @@ returns-3 c =
     let s = q .before .before .before .before in
     let a = s .args in
     let t = a .t .now in
-    let first = rw (c .enum-told .given .1) at (q .find-target .ensures (leadCodesIn t) (s .pre .0 .1 .indexed)) in (
+    let first = rw (c .enum-told .given .1) at (q .find-target .ensures (leadCodesIn t) (s .pre .0 .1)) in (
       (none-pending t (s .pre .0 .0) (a .index .now) (s .pre .0 .1) (a .c .now) (a .l .now) (a .w .now) (a .o .now) (a .n) (a .from) (s .pre .1 .0 .1) first, s .pre .1 .0 .0, refl),
       s .pre .1 .1,
     )
@@ -95,7 +95,7 @@ returns-4 c =
     let s = q .before .before .before .before in
     let a = s .args in
     let t = a .t .now in
-    let first = rw (x .next .given .1) at (q .find-target .ensures (leadCodesIn t) (s .pre .0 .1 .indexed)) in
+    let first = rw (x .next .given .1) at (q .find-target .ensures (leadCodesIn t) (s .pre .0 .1)) in
     let within = s .pre .0 .2 in
     let other = e .if1 .left in
     let more : a .used < a .budget = omega arith in

@@ -4,6 +4,7 @@ use Prim.Native.Nat.{_<_}
 use native.Mathlib.Omega.{arith}
 use lib.ListN.{getD}
 use Rattle.algebra.proofs.Spots.{spot-found}
+use Rattle.table.specs.Table.{primeIn}
 use Rattle.table.specs.Polynomials.{basisIn}
 use Rattle.packedterms.specs.Formula.{wordAt, termAt}
 use Rattle.packedterms.proofs.Places.{term-place, coef-small}
@@ -21,6 +22,12 @@ place s = term-place (s .args .t .now) (s .args .c .now) (s .args .l .now) (s .a
 -- what the start says of the polynomial
 leading : (s : tie.Start) → LeadTerm (s .args .t .now) (s .args .of)
 leading s = lead-term (s .args .t .now) (s .pre .0 .0) (s .args .of) (spot-found (basisIn (s .args .t .now)) _ (s .args .i) (s .args .of) (s .pre .1 .1) .0)
+
+-- the term's coefficient is an element
+small : (s : tie.Start) → getD (s .args .c .now) (getD (s .args .o .now) (s .args .k) 0) 0 < primeIn (s .args .t .now)
+small s =
+    let a = s .args in
+    coef-small (a .t .now) (a .c .now) (a .l .now) (a .w .now) (a .o .now) (a .n) (s .pre .0 .1) (a .k) (s .pre .0 .2)
 
 -- from the cut back to the start
 abbrev start : tie.After-cut → tie.Start
@@ -60,41 +67,49 @@ cut-requires c κs =
     rw (c .before .before .wide .ensures, c .before .before .before .before .before .take-place .ensures)
     ((s .pre .0 .0, term-held (a .t .now) (a .c .now) (a .l .now) (a .w .now) (a .o .now) (a .n) (s .pre .0 .1) (a .k) (s .pre .0 .2), s .pre .1 .0 .0, s .pre .1 .0 .1), s .pre .1 .1)
 
-mul-x : tie.Need-mul-x
-mul-x c = let h = place (c .before .before .before .before .before .before .before .before .before .before) in record { fits = omega arith }
+mul-divide : tie.Need-mul-divide
+mul-divide c = let h = place (start c) in record { fits = omega arith }
 
-element-copy-out-x : tie.Need-element-copy-out-x
-element-copy-out-x c = place (c .before .before .before .before .before .before .before .before .before .before)
+element-copy-out-divide : tie.Need-element-copy-out-divide
+element-copy-out-divide c = place (start c)
 
-take-onto-item-requires : tie.Need-take-onto-item-requires
-take-onto-item-requires c κs =
-    let x = c .before .before .before .before .before .before .before .before in
+divide-requires : tie.Need-divide-requires
+divide-requires c κs =
+    let s = start (c .before) in
+    let L = leading s in
+    (s .pre .0 .0, small s, L .some, L .most)
+
+cancel-term-requires : tie.Need-cancel-term-requires
+cancel-term-requires c κs =
+    let d = c .before .before .before .before .before .before .before in
+    let x = d .before .before in
     let s = start x in
+    let a = s .args in
+    let t = a .t .now in
     let C = cut-at x in
     let L = leading s in
-    let held = term-held (s .args .t .now) (s .args .c .now) (s .args .l .now) (s .args .w .now) (s .args .o .now) (s .args .n) (s .pre .0 .1) (s .args .k) (s .pre .0 .2) in
+    let held = term-held t (a .c .now) (a .l .now) (a .w .now) (a .o .now) (a .n) (s .pre .0 .1) (a .k) (s .pre .0 .2) in
     let lo = C .some in
     let hi = C .most in
-    let a = s .args in
-    let small = coef-small (a .t .now) (a .c .now) (a .l .now) (a .w .now) (a .o .now) (a .n) (s .pre .0 .1) (a .k) (s .pre .0 .2) in
-    rw (C .item) (
-      (s .pre .0 .0, small, omega arith, omega arith, s .pre .0 .3, s .pre .1 .0 .2),
-      (
-        (C .left-held, C .right-held, step-fits (s .args .t .now) (s .pre .0 .0) (s .args .of) L C (held .short)),
-        (s .pre .0 .1, (s .pre .0 .2, step-place (s .args .t .now) (termAt (s .args .t .now) (s .args .c .now) (s .args .l .now) (s .args .w .now) (s .args .o .now) (s .args .k)) _ (s .args .i) (s .args .of) (x .cut .result) _ _ C (s .pre .1 .1) (L .polynomial))),
-      ),
+    let u = termAt t (a .c .now) (a .l .now) (a .w .now) (a .o .now) (a .k) in
+    let at = step-place t u _ (a .i) (a .of) (x .cut .result) _ _ C (s .pre .1 .1) (s .pre .0 .0) (small s) (L .polynomial) in
+    rw (C .item, d .divide .ensures .0) (
+      (s .pre .0 .0, rw (d .divide .ensures .0) at (d .divide .ensures .1), omega arith, omega arith, s .pre .0 .3, s .pre .1 .0 .2),
+      ((C .left-held, C .right-held, step-fits t (s .pre .0 .0) (a .of) L C (held .short)), (s .pre .0 .1, (s .pre .0 .2, at))),
     )
 
 returns : tie.Need-returns
 returns c =
-    let x = c .before .before .before .before .before .before .before .before .before in
+    let d = c .before .before .before .before .before .before .before .before in
+    let x = d .before .before in
     let s = start x in
     let C = cut-at x in
     let L = leading s in
     let u = termAt (s .args .t .now) (s .args .c .now) (s .args .l .now) (s .args .w .now) (s .args .o .now) (s .args .k) in
-    let e = c .take-onto-item .ensures in
+    let e = c .cancel-term .ensures in
     let sum = step-sum (s .args .t .now) u _ (s .args .i) (s .args .of) (x .cut .result) _ _ C (s .pre .1 .1) _ (L .polynomial) in
-    (e .0, (e .1 .0, ((rw (C .item) at (e .1 .1)) ∙ sum, step-line (s .args .t .now) u _ (s .args .i) (s .args .of) (x .cut .result) _ _ C (s .pre .1 .1))))
+    let line = step-line (s .args .t .now) u _ (s .args .i) (s .args .of) (x .cut .result) _ _ C (s .pre .1 .1) in
+    (e .0, (e .1 .0, ((rw (C .item, d .divide .ensures .0) at (e .1 .1)) ∙ sum, rw (d .divide .ensures .0) line)))
 
 pub step-spec : {M : Type 1} → statement M
 step-spec =
@@ -108,7 +123,8 @@ step-spec =
     element-copy-out-wide
     wide-requires
     cut-requires
-    mul-x
-    element-copy-out-x
-    take-onto-item-requires
+    mul-divide
+    element-copy-out-divide
+    divide-requires
+    cancel-term-requires
     returns)

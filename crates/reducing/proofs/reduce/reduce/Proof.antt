@@ -3,7 +3,6 @@ use mathlib.Core.Path.{_∙_}
 use Rattle.accepting.specs.Accepted.{Accepts}
 use Rattle.reducing.specs.Reductions.{seenReduced, ShortHeld}
 use Rattle.reducing.proofs.Cases.{turned-refused, table-reduced}
-use Rattle.accepting.proofs.SoundBasis.{sound-nonzero}
 use borrow.Author.Needs.{needs}
 use Rattle.reducing.proofs.reduce.reduce.Statement.{statement}
 use Rattle.reducing.proofs.reduce.reduce.Tie as tie
@@ -22,7 +21,7 @@ unfolding Accepts
 reduce-formula-requires c κs =
     let a = c .before .before .before .before .before .before .before .before in
     let t = rw (c .before .before .before .before .before .before .r2 .given .1) at (a .accept .ensures .0) in
-    (t .0 .tabled, sound-nonzero _ _ (t .0 .basis) (t .0 .sound), a .accept .ensures .1)
+    (t .0 .tabled, a .accept .ensures .1)
 
 returns : tie.Need-returns
 unfolding Accepts seenReduced ShortHeld

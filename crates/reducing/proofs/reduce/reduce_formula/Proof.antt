@@ -97,19 +97,19 @@ load-requires : tie.Need-load-requires
 load-requires c κs =
     let r = formula-in (c .before .before .before .before .before .before .before .before .before .before .before) in
     let z = c .before .before .before .before .before .before .before .before .before .before .before .before .before .before .before .before .before .before .before .before .before .before .before .pre in
-    ((z .0, r .given, omega (arith, r .few)), (r .lettered, (r .written, z .2)))
+    ((z .0, r .given, omega (arith, r .few)), (r .lettered, (r .written, z .1)))
 
 index-leads-requires : tie.Need-index-leads-requires
 index-leads-requires c κs =
     let z = begun (c .before .before .before .before .before .before .before .before .before .before .before .before .before) .pre in
-    (z .0, (z .1, zeros-blank))
+    (z .0, zeros-blank)
 
 reduce-held-requires : tie.Need-reduce-held-requires
 reduce-held-requires c κs =
     let b = c .before .before .before .before .before .before .before .before .before .before .before .before .before .before .before .before .before .before .before in
     let z = begun b .pre in
     let e = c .before .before .before .before .before .before .before .load .ensures in
-    (z .0, record { nonzero = z .1; indexed = c .before .before .before .before .before .index-leads .ensures }, e .1 .0, omega (arith, e .0, formula-in b .few))
+    (z .0, c .before .before .before .before .before .index-leads .ensures, e .1 .0, omega (arith, e .0, formula-in b .few))
 
 returns : tie.Need-returns
 unfolding seenReduced ShortHeld seenFormula

@@ -1,5 +1,7 @@
 -- `tabulate` fills the sections one after the other.
+use native.Mathlib.Omega.{arith}
 use Rattle.tabulating.proofs.PlainKeys.{plain-keys}
+use Rattle.tabulating.proofs.LeadingCoefs.{leading}
 use Rattle.tabulating.proofs.Tabulated.{Begun, begun-of, sections-of, words-lie, tabled}
 use Rattle.tabulating.proofs.Tabulated.{prime-is, letter-count-is, gens-is, basis-count-is, relations-are, basis-is}
 use borrow.Author.Needs.{needs}
@@ -18,8 +20,19 @@ put-head-requires c κs = search needs
 put-keys-requires : tie.Need-put-keys-requires
 put-keys-requires c κs = search needs
 
+add-put-inverses : tie.Need-add-put-inverses
+add-put-inverses c = search needs
+
 put-inverses-requires : tie.Need-put-inverses-requires
-put-inverses-requires c κs = search needs
+put-inverses-requires c κs =
+    let s = c .before .before .before .before .before .before .before .before .before .before .before .before in
+    let l = s .pre .1 .0 in
+    let marks = l .basis-runs .marks in
+    let most = l .prime in (
+      (search needs, search needs, omega arith, omega arith),
+      leading (s .args .coefs .now) (s .args .starts .now) (s .args .lens .now) (s .args .bytes .now) (s .args .firsts .now) (l .terms) (l .basis-runs)
+          (s .pre .1 .1) (l .basis-written),
+    )
 
 add-put-firsts : tie.Need-add-put-firsts
 add-put-firsts c = search needs
@@ -39,18 +52,18 @@ head c = keys c .before .before
 abbrev start : tie.After-put-rows-arg → tie.Start
 start c = head c .before .before .before .before .before .before .before .before .before
 
-begun : (c : tie.After-put-rows-arg) → let a = start c .args in Begun (a .h) (a .m) (a .firsts .now) (c .before .put-firsts .last .0)
+begun : (c : tie.After-put-rows-arg) → let a = start c .args in Begun (a .h) (a .m) (a .coefs .now) (a .firsts .now) (c .before .put-firsts .last .0)
 begun c =
     let s = start c in
     let a = s .args in
-    let l = s .pre .1 in
+    let l = s .pre .1 .0 in
     let k = keys c .put-keys .ensures in
-    begun-of (a .h) (a .m) (a .firsts .now) (l .gens) (l .basis) (s .pre .0) (head c .put-head .ensures) (k .0) (k .1)
+    begun-of (a .h) (a .m) (a .coefs .now) (a .firsts .now) (l .gens) (l .basis) (s .pre .0) (head c .put-head .ensures) (k .0) (k .1)
     (c .before .before .before .put-inverses .ensures) (c .before .put-firsts .ensures)
 
 put-rows-requires : tie.Need-put-rows-requires
 put-rows-requires c κs =
-    let l = start c .pre .1 in
+    let l = start c .pre .1 .0 in
     let b = begun c in
     ((b .size, plain-keys _ (b .plain), l .count, l .terms .coefs-hold), words-lie l)
 
@@ -58,10 +71,11 @@ returns : tie.Need-returns
 returns c =
     let s = start (c .before) in
     let a = s .args in
-    let l = s .pre .1 in
+    let l = s .pre .1 .0 in
+    let nz = s .pre .1 .1 in
     let b = begun (c .before) in
     let x = sections-of (a .coefs .now) (a .starts .now) (a .lens .now) (a .bytes .now) (l .gens) (l .basis) b (c .put-rows .ensures) in
-    (tabled l x, ((prime-is l x, letter-count-is l x), ((gens-is l x, basis-count-is l x), (relations-are l x, basis-is l x))))
+    (tabled l nz x, ((prime-is l nz x, letter-count-is l nz x), ((gens-is l nz x, basis-count-is l nz x), (relations-are l nz x, basis-is l nz x))))
 
 pub tabulate-spec : {M : Type 1} → statement M
 tabulate-spec =
@@ -71,6 +85,7 @@ tabulate-spec =
     cast-basis
     put-head-requires
     put-keys-requires
+    add-put-inverses
     put-inverses-requires
     add-put-firsts
     add-put-firsts-2

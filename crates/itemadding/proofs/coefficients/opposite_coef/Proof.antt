@@ -3,8 +3,8 @@ use mathlib.Core.Path.{sym, _∙_}
 use native.Mathlib.Omega.{arith}
 use Rattle.itemadding.proofs.Sums.{opposite-one, opposite-times}
 use borrow.Author.Needs.{needs}
-use Rattle.itemadding.proofs.cancelling.opposite_coef.Statement.{statement}
-use Rattle.itemadding.proofs.cancelling.opposite_coef.Tie as tie
+use Rattle.itemadding.proofs.coefficients.opposite_coef.Statement.{statement}
+use Rattle.itemadding.proofs.coefficients.opposite_coef.Tie as tie
 
 prime-in-requires : tie.Need-prime-in-requires
 prime-in-requires c κs = search needs
