@@ -27,7 +27,7 @@ enum {
     VG_BOUNDS = 5,         /* a coefficient, letter, word length, item or `of` out of bounds; line */
     VG_ORDER = 6,          /* kinds, items or words out of order; line */
     VG_TOO_MANY_TERMS = 7, /* an item's 49th term, or the 1,025th term line; line */
-    VG_LEADING = 8,        /* a basis polynomial is zero or does not lead with 1; its number */
+    VG_LEADING = 8,        /* a basis polynomial is zero; its number */
     VG_HOLDS_ANOTHER = 9,  /* a basis polynomial's leading word holds another's; its number */
     VG_SUM_TOO_LONG = 10,  /* a sum line leaves over 512 terms of what its item still needs; line */
     VG_BASIS_SUM = 11,     /* a B sum is not the basis polynomial; its number */

@@ -1,10 +1,11 @@
 //! The library's times, side by side with two Rust implementations of the same services, in one process.
 //!
 //! `--ms N` gives each row N milliseconds; `--table NAME` prints one table: packages, letters, formulas, bytes,
-//! growth or fields.
+//! growth, fields or leading.
 
 mod fields;
 mod inputs;
+mod leading;
 mod letters;
 mod long_fronts;
 mod many_overlaps;
@@ -52,5 +53,8 @@ fn main() {
     }
     if wanted("fields") {
         fields::table(effort, &packages);
+    }
+    if wanted("leading") {
+        leading::table(effort, &packages);
     }
 }

@@ -1,5 +1,7 @@
 """What the four services answer, and where to."""
-from support import Command, E, E_LIST, formula, many_overlaps, text, with_line
+import os
+
+from support import Command, E, E_LIST, EXAMPLES, formula, many_overlaps, text, with_line
 
 
 class Answers(Command):
@@ -57,6 +59,25 @@ class Answers(Command):
         self.answers(formula(b"3 b"), "short", "any.pkg", "-", stdin=formula(b"6 aa", b"5 b"))
         self.answers(b"yes\n", "member", "any.pkg", "-", stdin=formula(b"142 aba", b"142 bb"))
         self.answers(b"no\n", "member", "any.pkg", "-", stdin=formula(b"142 aba", b"114 bb"))
+
+    def test_other_leading_coefficients(self):
+        # 3 aa + 4 b and 5 ab + 2 ba over GF(7): E's basis times 3 and 5. Steps and short forms are E's.
+        with open(os.path.join(EXAMPLES, "scaled", "e_scaled.pkg"), "rb") as file:
+            self.put("any.pkg", file.read())
+        self.answers(b"accepted, 2 overlaps\n", "check", "any.pkg")
+        self.answers(E_LIST, "overlaps", "any.pkg")
+        self.answers(formula(b"1 bbb"), "short", "any.pkg", "-", "--steps", stdin=formula(b"1 abab"), told=b"2 steps\n")
+        self.answers(b"yes\n", "member", "any.pkg", "-", "--steps", stdin=formula(b"1 aba", b"6 bb"), told=b"2 steps\n")
+
+    def test_other_leading_coefficients_over_256(self):
+        # aa becomes 2 b, from 2 aa + 4 b; ab becomes ba, from 4 ab + 4 ba. The inverses of 2 and 4 are 142 and 71, and 2 x 128 is 29.
+        self.put("any.pkg", text([b"p letters gens basis", b"256 2 1 2", b"kind item coef word", b"G 1 1 aa", b"G 1 2 b", b"B 1 2 aa",
+                                  b"B 1 4 b", b"B 2 4 ab", b"B 2 4 ba", b"kind item coef left of right", b"B 1 2 - 1 -", b"B 2 2 - 1 a",
+                                  b"B 2 2 a 1 -", b"G 1 142 - 1 -", b"O 1 142 - 2 -", b"O 2 71 - 2 a", b"O 2 142 b 1 -"]))
+        self.answers(b"accepted, 2 overlaps\n", "check", "any.pkg")
+        self.answers(E_LIST, "overlaps", "any.pkg")
+        self.answers(formula(b"29 b"), "short", "any.pkg", "-", stdin=formula(b"128 aa"))
+        self.answers(b"yes\n", "member", "any.pkg", "-", "--steps", stdin=formula(b"1 aba", b"2 bb"), told=b"2 steps\n")
 
     def test_package_from_standard_input(self):
         self.put("aba", formula(b"1 aba"))

@@ -10,7 +10,8 @@ import unittest
 from support import COMMAND, EXAMPLES, run
 
 # Number and place of each refusal: 01's table 'Numbers and places', where the input is one of that table's. Lines of 07 and 10: three lines
-# above the terms, so the 49th is line 52; 48 + 1 terms, the names line 53, so the eleventh sum line is line 64.
+# above the terms, so the 49th is line 52; 48 + 1 terms, the names line 53, so the eleventh sum line is line 64. 08 has three basis polynomials
+# by line 2, and terms of two.
 REFUSED = {
     "01-too-long": (1, 0),
     "02-shape": (2, 1),
@@ -20,7 +21,7 @@ REFUSED = {
     "05-bounds": (5, 4),
     "06-order": (6, 5),
     "07-too-many-terms": (7, 52),
-    "08-leading": (8, 1),
+    "08-zero-polynomial": (8, 3),
     "09-holds-another": (9, 2),
     "10-sum-too-long": (10, 64),
     "11-basis-sum": (11, 2),
@@ -103,8 +104,8 @@ class Refused(unittest.TestCase):
 
 class Accepted(unittest.TestCase):
     def test_packages(self):
-        packages = sorted(glob.glob(os.path.join(EXAMPLES, "*.pkg")))
-        self.assertEqual(len(packages), 9)
+        packages = sorted(glob.glob(os.path.join(EXAMPLES, "*.pkg")) + glob.glob(os.path.join(EXAMPLES, "scaled", "*.pkg")))
+        self.assertEqual(len(packages), 10)
         for package in packages:
             with self.subTest(os.path.basename(package)):
                 status, out, told = run(COMMAND, "check", package)
@@ -113,6 +114,39 @@ class Accepted(unittest.TestCase):
                 # The count is the number of lines that the list has below its names line.
                 count = int(re.search(rb"\d+", out).group())
                 self.assertEqual(run(COMMAND, "overlaps", package)[1].count(b"\n"), count + 1)
+
+
+class Scaled(unittest.TestCase):
+    """scaled/e_scaled.pkg is e.pkg with its basis polynomials times 3 and 5."""
+
+    def scaled(self, line):
+        """A line of e.pkg, its coefficient times the factor of its basis polynomial, or times the inverse of the factor of the one it names."""
+        fields = line.split(b" ")
+        if fields[0] == b"B":
+            times = (3, 5)[int(fields[1]) - 1]
+        elif fields[0] in (b"G", b"O") and len(fields) == 6:
+            times = (5, 3)[int(fields[4]) - 1]
+        else:
+            return line
+        return b" ".join([*fields[:2], b"%d" % (int(fields[2]) * times % 7), *fields[3:]])
+
+    def test_coefficients(self):
+        lines = content(os.path.join(EXAMPLES, "e.pkg")).split(b"\n")
+        expected = b"\n".join(self.scaled(line) for line in lines)
+        self.assertEqual(content(os.path.join(EXAMPLES, "scaled", "e_scaled.pkg")), expected)
+
+    def test_every_answer_is_that_of_e(self):
+        e, scaled = os.path.join(EXAMPLES, "e.pkg"), os.path.join(EXAMPLES, "scaled", "e_scaled.pkg")
+        for service in ("check", "overlaps"):
+            self.assertEqual(run(COMMAND, service, scaled), run(COMMAND, service, e))
+        formulas = glob.glob(os.path.join(EXAMPLES, "formulas", "e-*.formula")) + [os.path.join(EXAMPLES, "aba.formula")]
+        self.assertEqual(len(formulas), 4)
+        for formula in formulas:
+            for service in ("short", "member"):
+                with self.subTest(service + " " + os.path.basename(formula)):
+                    answer = run(COMMAND, service, "--steps", scaled, formula)
+                    self.assertEqual(answer[0], 0)
+                    self.assertEqual(answer, run(COMMAND, service, "--steps", e, formula))
 
 
 class Formulas(unittest.TestCase):

@@ -20,6 +20,7 @@ class Program(unittest.TestCase):
         self.prints(b"refused 3 2\n", with_line(2, b"9 2 1 2"))
         self.prints(b"refused 3 2\n", with_line(2, b"128 2 1 2"))
         self.prints(b"refused 5 4\n", with_line(4, b"G 1 7 aa"))
+        self.prints(b"refused 8 3\n", with_line(2, b"7 2 1 3"))
         self.prints(b"refused 9 2\n", with_line(8, b"B 2 1 aab"))
 
     def test_no_byte(self):
@@ -35,8 +36,8 @@ class Program(unittest.TestCase):
         self.prints(b"refused 19 250130\n", many_overlaps())
 
     def test_the_command_prints_the_same(self):
-        packages = glob.glob(os.path.join(EXAMPLES, "*.pkg"))
-        self.assertEqual(len(packages), 9)
+        packages = glob.glob(os.path.join(EXAMPLES, "*.pkg")) + glob.glob(os.path.join(EXAMPLES, "scaled", "*.pkg"))
+        self.assertEqual(len(packages), 10)
         for package in packages:
             with self.subTest(os.path.basename(package)), open(package, "rb") as file:
                 listed = run(COMMAND, "overlaps", package)

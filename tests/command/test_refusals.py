@@ -85,8 +85,8 @@ class OfPackages(Command):
         self.told(package, ":52", 7, "the 49th term of an item, or the 1025th term line", "   52 | G 1 1 bw")
 
     def test_8(self):
-        self.told(with_line(6, b"B 1 2 aa"), "", 8, "B 1 is zero or does not lead with coefficient 1", "    6 | B 1 2 aa")
-        self.told(with_line(2, b"7 2 1 3"), "", 8, "B 3 is zero or does not lead with coefficient 1", "      | no term line has B 3")
+        self.told(with_line(2, b"7 2 1 3"), "", 8, "B 3 is the zero polynomial", "      | no term line has B 3")
+        self.told(text(E_LINES[:5] + E_LINES[7:]), "", 8, "B 1 is the zero polynomial", "      | no term line has B 1")
 
     def test_9(self):
         self.told(with_line(8, b"B 2 1 aab"), "", 9, "the leading word of B 2 holds that of another basis polynomial", "    8 | B 2 1 aab")
@@ -95,6 +95,11 @@ class OfPackages(Command):
         words = "B %d is not the sum over the relations that its B lines give"
         self.told(with_line(13), "", 11, words % 2, "    8 | B 2 1 ab", "   12 | B 2 1 - 1 a")
         self.told(with_line(11), "", 11, words % 1, "    6 | B 1 1 aa", "      | no sum line has B 1")
+
+    def test_11_of_another_leading_coefficient(self):
+        # 2 aa + 6 b may be in a basis, but its B line gives aa + 6 b.
+        self.told(with_line(6, b"B 1 2 aa"), "", 11, "B 1 is not the sum over the relations that its B lines give", "    6 | B 1 2 aa",
+                  "   11 | B 1 1 - 1 -")
 
     def test_12(self):
         self.told(with_line(14), "", 12, "G 1 is not the sum over the basis that its G lines give", "    4 | G 1 1 aa", "      | no sum line has G 1")

@@ -113,7 +113,7 @@ static void tell_item(const input *package, uint64_t number, uint64_t place)
     begin(package, number, 0);
     switch (number) {
     case VG_LEADING:
-        fprintf(stderr, "B %" PRIu64 " is zero or does not lead with coefficient 1\n", place);
+        fprintf(stderr, "B %" PRIu64 " is the zero polynomial\n", place);
         show_item(package, 0, 'B', place);
         break;
     case VG_HOLDS_ANOTHER:

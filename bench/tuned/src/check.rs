@@ -39,14 +39,19 @@ fn no_sides() -> Frame {
 }
 
 /// B items with 10 and 11, G items with 10 and 12, then 15, then O items with 14, 10 and 13. Gives the overlap count.
-pub fn judge_sums<F: Field>(field: F, package: &Package, working: &mut Working) -> Result<usize, Refusal> {
+pub fn judge_sums<F: Field>(
+    field: F,
+    package: &Package,
+    inverses: &[u32; 64],
+    working: &mut Working,
+) -> Result<usize, Refusal> {
     let mut lines = Lines { sums: &package.sums, line: package.first_line };
     for item in 0..package.basis {
-        working.start(&mut no_sides(), package.basis_poly(item));
+        working.start(field, 1, &mut no_sides(), package.basis_poly(item));
         judge_sum(field, package, working, &mut lines, (0, item), 11, |of| package.relation(of))?;
     }
     for item in 0..package.gens {
-        working.start(&mut no_sides(), package.relation(item));
+        working.start(field, 1, &mut no_sides(), package.relation(item));
         judge_sum(field, package, working, &mut lines, (1, item), 12, |of| package.basis_poly(of))?;
     }
     let list = overlaps(package);
@@ -54,7 +59,7 @@ pub fn judge_sums<F: Field>(field: F, package: &Package, working: &mut Working) 
         return refuse(15, lines.line + k);
     }
     for (item, overlap) in list.iter().enumerate() {
-        judge_overlap(field, package, working, &mut lines, item, *overlap)?;
+        judge_overlap(field, package, inverses, working, &mut lines, (item, *overlap))?;
     }
     Ok(list.len())
 }
@@ -83,23 +88,23 @@ fn judge_sum<'a, F: Field>(
     Ok(())
 }
 
-/// Takes the lines of an overlap away from its difference.
+/// Takes the lines of an overlap away from its difference, each side of which is divided by its leading coefficient.
 #[inline(always)]
 fn judge_overlap<F: Field>(
     field: F,
     package: &Package,
+    inverses: &[u32; 64],
     working: &mut Working,
     lines: &mut Lines,
-    item: usize,
-    overlap: Overlap,
+    (item, overlap): (usize, Overlap),
 ) -> Result<(), Refusal> {
     let (first, second) =
         (package.basis_poly(overlap.first.into()), package.basis_poly(overlap.second.into()));
     let shared = usize::from(overlap.shared);
     let mut behind = Frame::new([0; SHORT], 0, second.lead_from(shared), second.lead_len() - shared);
-    working.start(&mut behind, first);
+    working.start(field, inverses[usize::from(overlap.first)], &mut behind, first);
     let mut before = Frame::new(first.lead_from(0), first.lead_len() - shared, [0; SHORT], 0);
-    working.add(field, field.minus(1), &mut before, second);
+    working.add(field, field.minus(inverses[usize::from(overlap.second)]), &mut before, second);
 
     // The overlap word is left × second leading word, too.
     let top_len = before.put(second.lead_from(0), second.lead_len());

@@ -13,6 +13,8 @@ pub trait Field: Copy {
     fn factor(self, x: u32) -> Self::Factor;
     /// x × a, where a is not 0.
     fn product(self, x: Self::Factor, a: u32) -> u32;
+    /// 1 / a, where a is not 0.
+    fn inverse(self, a: u32) -> u32;
 }
 
 /// The numbers below a prime of at most 16 bits.
@@ -45,6 +47,17 @@ impl Field for Prime {
     #[inline(always)]
     fn product(self, x: u32, a: u32) -> u32 {
         x * a % self.0
+    }
+
+    /// 1 / a is -(p / a) times 1 / (p % a).
+    #[inline(always)]
+    fn inverse(self, a: u32) -> u32 {
+        let (mut factor, mut left) = (1, a);
+        while left > 1 {
+            factor = factor * (self.0 - self.0 / left) % self.0;
+            left = self.0 % left;
+        }
+        factor
     }
 }
 
@@ -100,5 +113,10 @@ impl Field for Byte {
     #[inline(always)]
     fn product(self, x: u8, a: u32) -> u32 {
         POWERS[usize::from(x) + usize::from(self.factor(a))].into()
+    }
+
+    #[inline(always)]
+    fn inverse(self, a: u32) -> u32 {
+        POWERS[255 - usize::from(self.factor(a))].into()
     }
 }

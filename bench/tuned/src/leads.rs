@@ -1,6 +1,7 @@
 //! The leading words: refusals 8 and 9, and the index that finds the leftmost one in a word.
 
 use crate::block::SHORT;
+use crate::field::Field;
 use crate::package::Package;
 use crate::{refuse, Refusal};
 
@@ -51,7 +52,7 @@ impl Index {
 /// 8 for all items, then 9 for all.
 pub fn judge_leads(package: &Package) -> Result<(), Refusal> {
     for g in 0..package.basis {
-        if package.basis_poly(g).lead_coef() != Some(1) {
+        if package.basis_poly(g).lead_coef().is_none() {
             return refuse(8, g + 1);
         }
     }
@@ -63,6 +64,15 @@ pub fn judge_leads(package: &Package) -> Result<(), Refusal> {
         }
     }
     Ok(())
+}
+
+/// The inverses of the leading coefficients of a basis without zeros, by number.
+pub fn inverses<F: Field>(field: F, package: &Package) -> [u32; 64] {
+    let mut inverses = [1; 64];
+    for (g, inverse) in inverses[..package.basis].iter_mut().enumerate() {
+        *inverse = field.inverse(package.basis_poly(g).lead_coef().expect("a leading coefficient"));
+    }
+    inverses
 }
 
 /// The leading words of a basis without zeros, by number.

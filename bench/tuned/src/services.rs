@@ -2,13 +2,13 @@
 
 use crate::block::{Frame, SHORT};
 use crate::check::judge_sums;
-use crate::field::{Byte, Prime};
+use crate::field::{Byte, Field, Prime};
 use crate::formula::{read_formula, text_len, write_text};
-use crate::leads::{judge_leads, Index};
+use crate::leads::{inverses, judge_leads, Index};
 use crate::overlaps::{list_len, overlaps, write_list};
 use crate::package::Package;
 use crate::steps::run;
-use crate::terms::Terms;
+use crate::terms::{Poly, Terms};
 use crate::working::Working;
 use crate::{refuse, Refusal};
 
@@ -78,9 +78,14 @@ fn accept(package: &mut Package, working: &mut Working) -> Result<usize, Refusal
     package.read()?;
     judge_leads(package)?;
     match package.p {
-        256 => judge_sums(Byte, package, working),
-        p => judge_sums(Prime(p), package, working),
+        256 => judge(Byte, package, working),
+        p => judge(Prime(p), package, working),
     }
+}
+
+#[inline(always)]
+fn judge<F: Field>(field: F, package: &Package, working: &mut Working) -> Result<usize, Refusal> {
+    judge_sums(field, package, &inverses(field, package), working)
 }
 
 fn list(package: &mut Package, out: &mut [u8]) -> Result<(u64, u64), Refusal> {
@@ -99,11 +104,22 @@ fn reduce(package: &mut Package, working: &mut Working, formula: &[u8], budget: 
     accept(package, working)?;
     let mut terms = Terms::new();
     read_formula(formula, package.p, package.letters, &mut terms)?;
-    let mut sides = Frame::new([0; SHORT], 0, [0; SHORT], 0);
-    working.start(&mut sides, terms.poly(formula, 0, terms.count()));
-    let index = Index::new(package);
+    let formula = terms.poly(formula, 0, terms.count());
     match package.p {
-        256 => run(Byte, package, &index, working, budget),
-        p => run(Prime(p), package, &index, working, budget),
+        256 => steps(Byte, package, working, formula, budget),
+        p => steps(Prime(p), package, working, formula, budget),
     }
+}
+
+#[inline(always)]
+fn steps<F: Field>(
+    field: F,
+    package: &Package,
+    working: &mut Working,
+    formula: Poly,
+    budget: u32,
+) -> Result<u32, Refusal> {
+    let mut sides = Frame::new([0; SHORT], 0, [0; SHORT], 0);
+    working.start(field, 1, &mut sides, formula);
+    run(field, package, &inverses(field, package), &Index::new(package), working, budget)
 }

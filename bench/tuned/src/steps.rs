@@ -12,6 +12,7 @@ use crate::{refuse, Refusal};
 pub fn run<F: Field>(
     field: F,
     package: &Package,
+    inverses: &[u32; 64],
     index: &Index,
     working: &mut Working,
     budget: u32,
@@ -34,6 +35,10 @@ pub fn run<F: Field>(
         let left = *letters.first_chunk::<SHORT>().expect("24 letters");
         let right = *letters[behind..].first_chunk::<SHORT>().expect("24 letters");
         let mut frame = Frame::new(left, begin, right, len - behind);
+        let coef = match inverses[g] {
+            1 => coef,
+            inverse => field.product(field.factor(inverse), coef),
+        };
         working.replace(field, field.minus(coef), &mut frame, poly, k);
         steps += 1;
         if working.len() > MOST {

@@ -54,14 +54,16 @@ impl Working {
         (self.coefs[place], &self.words()[place])
     }
 
-    /// Makes the formula left × poly × right, whatever it was: the words of a product fall as those of the polynomial.
+    /// Makes the formula x × left × poly × right, whatever it was: the words of a product fall as those of the polynomial.
     #[inline]
-    pub fn start(&mut self, frame: &mut Frame, poly: Poly) {
+    pub fn start<F: Field>(&mut self, field: F, x: u32, frame: &mut Frame, poly: Poly) {
         self.n = 0;
+        let factor = field.factor(x);
         for term in poly.terms() {
             let len = frame.put(term.word, term.len);
             let place = self.order[self.n];
-            self.store(place, term.coef, frame.word(), len);
+            let coef = if x == 1 { term.coef } else { field.product(factor, term.coef) };
+            self.store(place, coef, frame.word(), len);
             self.n += 1;
         }
     }

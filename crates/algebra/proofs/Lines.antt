@@ -31,6 +31,12 @@ unfolding shift scale
 shift-scale K l r c [] = refl
 shift-scale K l r c (t ∷ f) = rw (shift-scale K l r c f)
 
+-- a multiple of a multiple
+pub scale-scale : {K : Operations} → Field K → (a b : ℕ) (f : Poly) → scale K a (scale K b f) ≡ scale K (K .mul a b) f
+unfolding scale
+scale-scale F a b [] = refl
+scale-scale F a b (t ∷ f) = rw (F .mul-assoc a b (t .coef), scale-scale F a b f)
+
 -- each line becomes c × x × line × y
 unfoldable pub times : Operations → ℕ → Word → Word → List Line → List Line
 times K c x y [] = []

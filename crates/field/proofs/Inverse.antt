@@ -7,7 +7,7 @@ use native.Mathlib.Decide.{decLt, ℕ-discrete}
 use native.Mathlib.Omega.{arith}
 use Rattle.field.specs.Field.{Operations, inverseMod, modular, gf256, fieldOf}
 use Rattle.field.proofs.Modular.{mod-mul-mod, mul-mod-mod}
-use Rattle.field.proofs.ByteField.{inverse-byte}
+use Rattle.field.proofs.ByteField.{inverse-byte, inverse-of-one}
 use Rattle.field.proofs.Fields.{field-other, by-field}
 
 module _ (p : ℕ) where
@@ -71,3 +71,11 @@ module _ (p : ℕ) where
 pub inv-lt : (p a : ℕ) → 1 < p → fieldOf p .inv a < p
 unfolding modular
 inv-lt p a = by-field (λ p K. 1 < p → K .inv a < p) (λ h. inverse-byte a) (λ p h. inverse-lt p (a % p) (a % p) h) p
+
+-- that of 1 is 1
+pub inv-one : (p : ℕ) → 1 < p → _≡_ {A = ℕ} (fieldOf p .inv 1) 1
+unfolding modular
+inv-one p h = by-field (λ p K. 1 < p → _≡_ {A = ℕ} (K .inv 1) 1) (λ q. sym (inverse-of-one 1 (omega arith) (omega arith) refl)) modular-one p h
+  where
+    modular-one : (p : ℕ) → 1 < p → _≡_ {A = ℕ} (modular p .inv 1) 1
+    modular-one p q = ap (λ (x : ℕ). inverseMod p x x) (mod-eq-of-lt q) ∙ last-inverse p 1 1 (omega arith)

@@ -12,17 +12,12 @@ use Rattle.algebra.specs.Poly.{Term, Poly, scale, shift, sub}
 use Rattle.algebra.specs.Ideal.{Family}
 use Rattle.algebra.specs.Groebner.{lead, leadCoef, monic}
 use Rattle.algebra.specs.Written as Wr
-use Rattle.algebra.proofs.Lines.{shift-scale}
+use Rattle.algebra.proofs.Lines.{shift-scale, scale-scale}
 use Rattle.algebra.proofs.WrittenForm.{written-multiple, written-of-written}
 use Rattle.algebra.specs.Written.{Written, plus, written}
 use Rattle.overlaps.specs.Overlaps.{Overlap, difference}
 
 module _ {K : Operations} (F : Field K) (O : Order) where
-  scale-scale : (a b : ℕ) (f : Poly) → scale K a (scale K b f) ≡ scale K (K .mul a b) f
-  unfolding scale
-  scale-scale a b [] = refl
-  scale-scale a b (t ∷ f) = rw (F .mul-assoc a b (t .coef), scale-scale a b f)
-
   plus-append : (f g k : Poly) → plus K O f (g ++ k) ≡ plus K O (plus K O f g) k
   unfolding plus
   plus-append f [] k = refl
@@ -31,7 +26,7 @@ module _ {K : Operations} (F : Field K) (O : Order) where
   -- the second side, divided and taken away
   taken-side : (l r : Word) (x : ℕ) (f : Poly) → scale K (K .neg 1) (shift l r (scale K x f)) ≡ scale K (K .neg x) (shift l r f)
   taken-side l r x f =
-      ap (scale K (K .neg 1)) (shift-scale K l r x f) ∙ scale-scale (K .neg 1) x (shift l r f)
+      ap (scale K (K .neg 1)) (shift-scale K l r x f) ∙ scale-scale F (K .neg 1) x (shift l r f)
       ∙ ap (λ (y : ℕ). scale K y (shift l r f)) (sym (neg-eq-mul F x))
 
   -- the difference, added up in two parts, where x and y are the inverses of the leading coefficients

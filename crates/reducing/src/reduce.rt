@@ -13,6 +13,7 @@ use packedtexts::loading::load;
 use table::Table;
 use table::numbers::letters_in;
 use table::numbers::prime_in;
+use tabulating::dividing::divide_basis;
 ghost use mathlib.Core.Path.{_≡_};
 ghost use Prim.Native.Nat.{_≤_};
 ghost use lib.ListN.{length};
@@ -104,7 +105,8 @@ fn reduce_formula(
     }
 }
 
-// A formula's bytes under a package's bytes: 1 to 18, or the short form, which the arrays then hold; t is the package's table.
+// A formula's bytes under a package's bytes: 1 to 18, or the short form, which the arrays then hold; t is the package's table, its basis divided by the
+// leading coefficients. Steps are those of the basis as it stands.
 pub fn reduce(
     package: &[u8],
     text: &[u8],
@@ -128,6 +130,9 @@ pub fn reduce(
             number: number,
             place: place,
         },
-        Accepting::Taken { overlaps } => reduce_formula(t, text, budget, c, l, w, o),
+        Accepting::Taken { overlaps } => {
+            divide_basis(t);
+            reduce_formula(t, text, budget, c, l, w, o)
+        }
     }
 }

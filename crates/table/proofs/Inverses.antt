@@ -1,5 +1,5 @@
 -- The inverses of a table's leading coefficients: they are elements other than 0, and what was divided by a leading coefficient, times that, is as before.
-use mathlib.Core.Path.{_≡_, _∙_}
+use mathlib.Core.Path.{_≡_, _∙_, ap}
 use mathlib.Core.Logic.{_≢_, inl, inr, _⊎_}
 use mathlib.Core.List.{List, []}
 use Prim.Native.Nat.{ℕ, suc, _+_, _<_}
@@ -41,3 +41,9 @@ module _ (t : List ℕ) (T : Tabled t) where
       → fieldIn t .mul (fieldIn t .mul c (fieldIn t .inv (leadCoef (family (basisIn t) g)))) (leadCoef (family (basisIn t) g)) ≡ c
   divided-back g c n h =
       divided-times (T .field) (leadCoef (family (basisIn t) g)) c (lead-some g n) ∙ T .field .red-elem c (element-of (primeIn t) h)
+
+  -- a polynomial divided by its leading coefficient leads with 1
+  pub inverse-lead : (g : ℕ) → g < basisCountIn t → fieldIn t .mul (inverseIn t g) (leadCoef (family (basisIn t) (suc g))) ≡ 1
+  inverse-lead g h =
+      let a = leadCoef (family (basisIn t) (suc g)) in
+      ap (λ (x : ℕ). fieldIn t .mul x a) (T .inverses g h) ∙ T .field .mul-comm (fieldIn t .inv a) a ∙ T .field .mul-inv a (lead-some (suc g) (basis-some g h))

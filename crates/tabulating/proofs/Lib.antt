@@ -3,5 +3,9 @@ pub mod KeptKeys
 pub mod RowEntries
 pub mod PlainKeys
 pub mod TermRows
+pub mod KeptWords
+pub mod ScaledRows
+pub mod DividedItem
+pub mod DividedBasis
 pub mod LeadingCoefs
 pub mod Tabulated

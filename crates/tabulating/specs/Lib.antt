@@ -3,4 +3,5 @@ pub mod Filled
 pub mod Plain
 pub mod Rows
 pub mod Leading
+pub mod Divided
 pub mod Lies

@@ -14,7 +14,7 @@ ghost use Rattle.tabulating.specs.Lies.{WordsLie};
 ghost use Rattle.tabulating.specs.Rows.{rowOf, rowEntry};
 
 // A coefficient, and a size below it.
-fn joined(c: u32, z: usize) -> u64
+pub fn joined(c: u32, z: usize) -> u64
     requires { ⌜ z < 4294967296 ⌝ }
     ensures { λ r. ⌜ r ≡ c * 4294967296 + z ⌝ }
 {

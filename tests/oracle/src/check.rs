@@ -45,8 +45,9 @@ fn judge_sums(package: &Package, list: &[Overlap]) -> Result<(), Refusal> {
     Ok(())
 }
 
-/// Takes the lines of one item away from its target, one after the other. A line that is not `below` gets
-/// 14; a line that leaves over 512 terms gets 10; a rest at the end gets `wrong`, a number with its place.
+/// Takes the lines of one item away from its target, one after the other. A line multiplies its polynomial as it
+/// stands, whatever that leads with. A line that is not `below` gets 14; a line that leaves over 512 terms gets
+/// 10; a rest at the end gets `wrong`, a number with its place.
 fn judge_sum(
     p: u64,
     target: Poly,

@@ -1,14 +1,14 @@
 //! The leading words of the basis: refusals 8 and 9.
 
-use crate::package::Package;
-use crate::poly::{lead, lead_word};
+use crate::package::{read, Package};
+use crate::poly::{lead_coef, lead_word};
 use crate::refusal::{refuse, Refusal};
 
-/// 8 for all items, then 9 for all: every basis polynomial is nonzero and leads with coefficient 1, and no
-/// leading word holds another polynomial's.
+/// 8 for all items, then 9 for all: every basis polynomial is nonzero, and no leading word holds another
+/// polynomial's. A leading coefficient may be any but 0.
 pub fn judge_leads(package: &Package) -> Result<(), Refusal> {
     for (f, item) in package.basis.iter().zip(1..) {
-        if lead(f).map(|(_, coef)| coef) != Some(1) {
+        if f.is_empty() {
             return refuse(8, item);
         }
     }
@@ -20,4 +20,10 @@ pub fn judge_leads(package: &Package) -> Result<(), Refusal> {
         }
     }
     Ok(())
+}
+
+/// Whether a package reads and has a basis polynomial that leads with another coefficient than 1.
+pub fn leads_otherwise(bytes: &[u8]) -> bool {
+    let otherwise = |package: Package| package.basis.iter().any(|f| !f.is_empty() && lead_coef(f) != 1);
+    read(bytes).is_ok_and(otherwise)
 }

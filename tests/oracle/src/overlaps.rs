@@ -1,7 +1,7 @@
 //! Overlaps of leading words, their words, their differences, and their list.
 
 use crate::coefficients::negative;
-use crate::poly::{add_multiple, lead_word, Poly};
+use crate::poly::{add_multiple, divided, lead_word, Poly};
 use crate::word::Word;
 
 const NAMES: &str = "item first second shared word\n";
@@ -32,7 +32,7 @@ pub fn overlaps(basis: &[Poly]) -> Vec<Overlap> {
 }
 
 impl Overlap {
-    /// The leading words of the first and the second, and how many letters they share.
+    /// The first polynomial and the second, and how many letters their leading words share.
     fn parts<'a>(&self, basis: &'a [Poly]) -> (&'a Poly, &'a Poly, usize) {
         (&basis[self.first as usize - 1], &basis[self.second as usize - 1], self.shared as usize)
     }
@@ -49,14 +49,15 @@ impl Overlap {
         lead_word(f).times(&self.rest(basis))
     }
 
-    /// First polynomial × rest, minus (first leading word without its shared end) × second polynomial.
+    /// First polynomial × rest, minus (first leading word without its shared end) × second polynomial, each
+    /// polynomial divided by its own leading coefficient.
     pub fn difference(&self, p: u64, basis: &[Poly]) -> Poly {
         let (f, g, shared) = self.parts(basis);
         let u = lead_word(f);
         let begin = Word(u.0[..u.len() - shared].to_vec());
         let mut difference = Poly::new();
-        add_multiple(p, &mut difference, 1, &Word::empty(), f, &self.rest(basis));
-        add_multiple(p, &mut difference, negative(p, 1), &begin, g, &Word::empty());
+        add_multiple(p, &mut difference, 1, &Word::empty(), &divided(p, f), &self.rest(basis));
+        add_multiple(p, &mut difference, negative(p, 1), &begin, &divided(p, g), &Word::empty());
         difference
     }
 }
@@ -72,4 +73,27 @@ pub fn list_text(list: &[Overlap], basis: &[Poly]) -> Vec<u8> {
         text.push(10);
     }
     text
+}
+
+#[cfg(test)]
+mod tests {
+    use super::*;
+
+    /// The differences of E are `ab` + 6 `ba` and `aba` + 6 `bb`, whatever its polynomials are multiplied by.
+    #[test]
+    fn differences_of_e() {
+        let poly = |terms: &[(u64, &str)]| -> Poly {
+            terms.iter().map(|(coef, word)| (Word::new(word), *coef)).collect()
+        };
+        let wanted = [poly(&[(1, "ab"), (6, "ba")]), poly(&[(1, "aba"), (6, "bb")])];
+        for c in 1..7 {
+            for d in 1..7 {
+                let first = poly(&[(c, "aa"), (6 * c % 7, "b")]);
+                let basis = [first, poly(&[(d, "ab"), (6 * d % 7, "ba")])];
+                let list = overlaps(&basis);
+                let differences: Vec<Poly> = list.iter().map(|lap| lap.difference(7, &basis)).collect();
+                assert_eq!(differences, wanted, "{c} and {d}");
+            }
+        }
+    }
 }

@@ -1,6 +1,6 @@
 //! Polynomials, as a map from words to coefficients.
 
-use crate::coefficients::{add, times};
+use crate::coefficients::{add, inverse, times};
 use crate::word::Word;
 use std::collections::BTreeMap;
 
@@ -16,6 +16,17 @@ pub fn lead(f: &Poly) -> Option<(&Word, u64)> {
 /// The leading word of a polynomial that is not zero.
 pub fn lead_word(f: &Poly) -> &Word {
     lead(f).expect("a polynomial that is not zero").0
+}
+
+/// The leading coefficient of a polynomial that is not zero.
+pub fn lead_coef(f: &Poly) -> u64 {
+    lead(f).expect("a polynomial that is not zero").1
+}
+
+/// A polynomial that is not zero, divided by its leading coefficient.
+pub fn divided(p: u64, f: &Poly) -> Poly {
+    let factor = inverse(p, lead_coef(f));
+    f.iter().map(|(word, coef)| (word.clone(), times(p, *coef, factor))).collect()
 }
 
 /// Adds coef × word to f. A coefficient that becomes 0 is taken out.
@@ -49,5 +60,16 @@ mod tests {
         assert_eq!(f[&Word::new("a")], 240);
         add_term(256, &mut f, 240, Word::new("a"));
         assert!(f.is_empty());
+    }
+
+    /// 5 × 3 is 1 modulo 7, and 4 × 5 is 6. In GF(256) 2 × 142 is 1, and 29 is 2 × 128.
+    #[test]
+    fn division_by_the_leading_coefficient() {
+        let poly = |aa, b| Poly::from([(Word::new("aa"), aa), (Word::new("b"), b)]);
+        assert_eq!(lead_coef(&poly(3, 4)), 3);
+        assert_eq!(divided(7, &poly(3, 4)), poly(1, 6));
+        assert_eq!(divided(7, &poly(1, 6)), poly(1, 6));
+        assert_eq!(divided(256, &poly(2, 29)), poly(1, 128));
+        assert_eq!(divided(256, &poly(142, 1)), poly(1, 2));
     }
 }

@@ -5,9 +5,8 @@ use crate::formula::{formula_text, read_formula};
 use crate::leads::judge_leads;
 use crate::overlaps::{list_text, overlaps};
 use crate::package::{read, PACKAGE_BYTES};
-use crate::poly::Poly;
 use crate::refusal::{refuse, Refusal};
-use crate::steps::run;
+use crate::steps::{run, Reduced};
 
 /// An answer of any service. On success number and place are 0; on a refusal the counts are 0.
 #[derive(Clone, Debug, Default, PartialEq, Eq)]
@@ -18,6 +17,9 @@ pub struct Answer {
     pub count: u64,
     /// Membership only: 1 for yes, 0 for no.
     pub member: u64,
+    /// Of the steps, those with a polynomial that leads with another coefficient than 1. No service says it: it is
+    /// here to be counted.
+    pub divided: u64,
     /// The bytes written to the output. None: the output is as it was. Check and membership have none.
     pub output: Option<Vec<u8>>,
 }
@@ -50,7 +52,7 @@ pub fn list_overlaps(package: &[u8], out_len: usize) -> Answer {
 }
 
 /// A formula's short form under a package, and the steps to it.
-fn reduce(package: &[u8], formula: &[u8], budget: u32) -> Result<(Poly, u64), Refusal> {
+fn reduce(package: &[u8], formula: &[u8], budget: u32) -> Result<Reduced, Refusal> {
     let (package, _) = accept(package)?;
     let formula = read_formula(formula, package.p, package.letters)?;
     run(&package, formula, budget.into())
@@ -59,9 +61,9 @@ fn reduce(package: &[u8], formula: &[u8], budget: u32) -> Result<(Poly, u64), Re
 /// Short form: number, place, steps, output.
 pub fn short_form(package: &[u8], formula: &[u8], budget: u32, out_len: usize) -> Answer {
     let result = || {
-        let (short, steps) = reduce(package, formula, budget)?;
+        let Reduced { short, steps, divided } = reduce(package, formula, budget)?;
         let output = fitting(formula_text(&short), out_len)?;
-        Ok(Answer { count: steps, output, ..Answer::default() })
+        Ok(Answer { count: steps, divided, output, ..Answer::default() })
     };
     Answer::of(result())
 }
@@ -69,8 +71,8 @@ pub fn short_form(package: &[u8], formula: &[u8], budget: u32, out_len: usize) -
 /// Membership: number, place, steps, yes or no.
 pub fn member(package: &[u8], formula: &[u8], budget: u32) -> Answer {
     let result = || {
-        let (short, steps) = reduce(package, formula, budget)?;
-        Ok(Answer { count: steps, member: short.is_empty().into(), ..Answer::default() })
+        let Reduced { short, steps, divided } = reduce(package, formula, budget)?;
+        Ok(Answer { count: steps, divided, member: short.is_empty().into(), ..Answer::default() })
     };
     Answer::of(result())
 }

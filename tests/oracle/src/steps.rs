@@ -1,8 +1,8 @@
 //! Rewriting a formula step by step: refusals 17 and 18.
 
-use crate::coefficients::negative;
+use crate::coefficients::{inverse, negative, times};
 use crate::package::Package;
-use crate::poly::{add_multiple, lead_word, Poly};
+use crate::poly::{add_multiple, lead_coef, lead_word, Poly};
 use crate::refusal::{refuse, Refusal};
 use crate::word::Word;
 
@@ -37,19 +37,31 @@ fn leftmost(word: &Word, basis: &[Poly]) -> Option<Site> {
     None
 }
 
-/// Brings f to its short form under an accepted package. Gives it with the number of steps.
-pub fn run(package: &Package, mut f: Poly, budget: u64) -> Result<(Poly, u64), Refusal> {
-    let mut steps = 0;
+/// A short form and the steps to it.
+pub struct Reduced {
+    pub short: Poly,
+    pub steps: u64,
+    /// Of the steps, those with a polynomial that leads with another coefficient than 1.
+    pub divided: u64,
+}
+
+/// Brings f to its short form under an accepted package. A step takes away the word's coefficient × the inverse
+/// of the leading coefficient × left × basis polynomial × right.
+pub fn run(package: &Package, mut f: Poly, budget: u64) -> Result<Reduced, Refusal> {
+    let p = package.p;
+    let (mut steps, mut divided) = (0, 0);
     while let Some(site) = next_site(&f, &package.basis) {
         if steps == budget {
             return refuse(18, budget);
         }
         steps += 1;
-        let coef = negative(package.p, f[&site.word]);
-        add_multiple(package.p, &mut f, coef, &site.left, &package.basis[site.basis], &site.right);
+        let g = &package.basis[site.basis];
+        divided += u64::from(lead_coef(g) != 1);
+        let coef = times(p, f[&site.word], inverse(p, lead_coef(g)));
+        add_multiple(p, &mut f, negative(p, coef), &site.left, g, &site.right);
         if f.len() > STEP_TERMS {
             return refuse(17, steps);
         }
     }
-    Ok((f, steps))
+    Ok(Reduced { short: f, steps, divided })
 }

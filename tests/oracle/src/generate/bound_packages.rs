@@ -9,6 +9,7 @@ use crate::generate::growth::{growing_sum, Lines};
 use crate::generate::package_rows::Row;
 use crate::generate::random::Random;
 use crate::generate::rows_256::e_256;
+use crate::generate::scale::{scale_all, scale_some};
 use crate::poly::Poly;
 use crate::word::Word;
 
@@ -28,19 +29,24 @@ pub fn bound_packages() -> Vec<Row> {
         let mut basis_49 = one_polynomial(p, 48);
         basis_49.terms.push(Term { kind: 'B', item: 1, coef: 1, word: Word::empty() });
         put(basis_49.text(), 7, 100, 0);
-        // 512 and 513 terms in a sum of each kind. The lines stand below 4 names lines and values, terms,
-        // and the sums above.
+        // 512 and 513 terms in a sum of each kind, also with other leading coefficients than 1. The lines stand
+        // below 4 names lines and values, terms, and the sums above.
         for kind in ['B', 'G', 'O'] {
             for top in [512, 513] {
-                let draft = growing_sum(random, p, kind, top, Lines::UpAndDown);
+                let mut draft = growing_sum(random, p, kind, top, Lines::UpAndDown);
                 let first = draft.sums.iter().position(|sum| sum.left == Word::new("c"));
                 let line = 4 + draft.terms.len() + first.expect("a growing line") + 11;
-                let (number, place) = if top == 512 { (0, 0) } else { (10, line as u64) };
-                put(draft.text(), number, place, if top == 512 { 4 } else { 0 });
+                let (number, place, overlaps) = if top == 512 { (0, 0, 4) } else { (10, line as u64, 0) };
+                put(draft.text(), number, place, overlaps);
+                scale_all(random, &mut draft);
+                put(draft.text(), number, place, overlaps);
             }
         }
-        // 32 relations and 64 basis polynomials.
-        put(copies_of_e(p, 32).text(), 0, 0, 64);
+        // 32 relations and 64 basis polynomials, also with other leading coefficients than 1.
+        let mut copies = copies_of_e(p, 32);
+        put(copies.text(), 0, 0, 64);
+        scale_all(random, &mut copies);
+        put(copies.text(), 0, 0, 64);
     }
     // 1,024 term lines, the 1,025th in order, the same of wrong shape, and the same out of bounds.
     let full = without_overlaps(random, 7, 32, 16).expect("no overlaps");
@@ -92,18 +98,20 @@ fn one_other(place: usize, letter: u8) -> Word {
 
 /// A package near a bound on sizes: terms in an item, term lines, or bytes.
 pub fn near_bound(random: &mut Random, p: u64) -> Vec<u8> {
-    match random.below(3) {
-        0 => one_polynomial(p, random.between(46, 50) as usize).text(),
+    let mut draft = match random.below(3) {
+        0 => one_polynomial(p, random.between(46, 50) as usize),
         1 => {
             let mut draft = without_overlaps(random, p, 32, 16).expect("no overlaps");
             // No, one or two terms over 1,024.
             for word in ["z", ""].iter().take(random.below(3) as usize) {
                 draft.terms.push(Term { kind: 'B', item: 32, coef: 1, word: Word::new(word) });
             }
-            draft.text()
+            draft
         }
-        _ => padded_e(p, random.between(65_530, 65_540) as usize),
-    }
+        _ => return padded_e(p, random.between(65_530, 65_540) as usize),
+    };
+    scale_some(random, &mut draft);
+    draft.text()
 }
 
 /// One relation of `terms` terms over 26 letters, which is its own basis and overlaps nothing.

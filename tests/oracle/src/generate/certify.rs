@@ -1,10 +1,10 @@
 //! Writing the sums of a basis: reduction with every step recorded.
 
-use crate::coefficients::{add, negative, times};
+use crate::coefficients::{add, inverse, negative, times};
 use crate::generate::draft::{Draft, Sum};
 use crate::overlaps::overlaps;
 use crate::package::LETTERS;
-use crate::poly::{add_multiple, lead_word, Poly};
+use crate::poly::{add_multiple, lead_coef, lead_word, Poly};
 use crate::word::Word;
 use std::collections::BTreeMap;
 
@@ -49,8 +49,8 @@ fn place(word: &Word, basis: &[Poly]) -> Option<(Word, usize, Word)> {
     None
 }
 
-/// Reduces f by a basis that leads with 1: only while its leading word can be reduced, or all words. None:
-/// it took over `limit` steps or grew over 200 terms.
+/// Reduces f by a basis, whatever that leads with: only while f's leading word can be reduced, or all words.
+/// None: it took over `limit` steps or grew over 200 terms.
 pub fn reduce(p: u64, f: &mut Poly, basis: &[Poly], whole: bool, limit: usize) -> Option<Vec<Taken>> {
     let mut taken = Vec::new();
     // The words from here on up cannot be reduced.
@@ -73,6 +73,7 @@ pub fn reduce(p: u64, f: &mut Poly, basis: &[Poly], whole: bool, limit: usize) -
         if taken.len() == limit || f.len() > 200 {
             return None;
         }
+        let coef = times(p, coef, inverse(p, lead_coef(&basis[index])));
         add_multiple(p, f, negative(p, coef), &left, &basis[index], &right);
         taken.push(Taken { coef, left, index, right });
     }

@@ -1,11 +1,12 @@
 //! Damage to a package with a refusal in view: each target changes what that refusal judges.
 
-use crate::coefficients::negative;
+use crate::coefficients::{inverse, negative};
+use crate::generate::damage_scale::{in_field, scale_difference, scale_lead, scale_without};
 use crate::generate::draft::{Draft, Sum, Term};
 use crate::generate::dress::add_cancelling;
 use crate::generate::random::Random;
 use crate::overlaps::{overlaps, Overlap};
-use crate::poly::{lead, lead_word, Poly};
+use crate::poly::{lead, lead_coef, lead_word, Poly};
 use crate::word::Word;
 
 /// Numbers in place of p: some fields, and what is near them, out of bounds, or a power of a prime.
@@ -31,13 +32,14 @@ pub fn aim(random: &mut Random, draft: &mut Draft, number: u64) {
         },
         5 => out_of_bounds(random, draft),
         6 => out_of_order(random, draft),
-        8 => bad_lead(random, draft),
+        8 => zero_polynomial(random, draft),
         9 => holding_lead(random, draft),
-        11 => change_sum(random, draft, 'B'),
-        12 => change_sum(random, draft, 'G'),
-        13 => change_sum(random, draft, 'O'),
+        11 => wrong_sum(random, draft, 'B'),
+        12 => wrong_sum(random, draft, 'G'),
+        13 => wrong_sum(random, draft, 'O'),
         14 => not_below(random, draft),
         15 => above_count(random, draft),
+        _ if random.one_in(3) => scale_lead(random, draft),
         _ => change_coefficient(random, draft),
     }
 }
@@ -91,17 +93,13 @@ fn out_of_order(random: &mut Random, draft: &mut Draft) {
     }
 }
 
-/// A basis polynomial that is zero or leads with another coefficient.
-fn bad_lead(random: &mut Random, draft: &mut Draft) {
+/// A basis polynomial that is zero: one more than there are, or one that has lost its terms.
+fn zero_polynomial(random: &mut Random, draft: &mut Draft) {
     let item = random.between(1, draft.basis.max(1));
-    match random.below(3) {
-        0 if draft.basis < 64 => draft.basis += random.between(1, 64 - draft.basis),
-        1 => draft.terms.retain(|term| (term.kind, term.item) != ('B', item)),
-        _ => {
-            if let Some(term) = draft.terms.iter_mut().find(|term| (term.kind, term.item) == ('B', item)) {
-                term.coef = random.coef(draft.p);
-            }
-        }
+    if random.one_in(2) && draft.basis < 64 {
+        draft.basis += random.between(1, 64 - draft.basis);
+    } else {
+        draft.terms.retain(|term| (term.kind, term.item) != ('B', item));
     }
 }
 
@@ -122,12 +120,22 @@ fn holding_lead(random: &mut Random, draft: &mut Draft) {
     let mut kept: Vec<Term> = draft.terms.clone();
     kept.retain(|term| (term.kind, term.item) != ('B', into as u64 + 1) || term.word < word);
     let at = kept.iter().position(|term| term.kind == 'B' && term.item > into as u64);
-    let new = Term { kind: 'B', item: into as u64 + 1, coef: 1, word };
+    let new = Term { kind: 'B', item: into as u64 + 1, coef: random.coef(draft.p), word };
     kept.insert(at.unwrap_or(kept.len()), new);
     draft.terms = kept;
 }
 
-/// A sum of this kind, or of any when there is none, that is most likely wrong.
+/// A sum of this kind that is most likely wrong: one of its lines is changed, or it is not as a leading coefficient
+/// wants it.
+fn wrong_sum(random: &mut Random, draft: &mut Draft, kind: char) {
+    match random.below(4) {
+        0 => scale_without(random, draft, kind),
+        1 if kind == 'O' => scale_difference(random, draft),
+        _ => change_sum(random, draft, kind),
+    }
+}
+
+/// A line of this kind, or of any when there is none, is changed, dropped or repeated.
 fn change_sum(random: &mut Random, draft: &mut Draft, kind: char) {
     let mut lines: Vec<usize> =
         (0..draft.sums.len()).filter(|index| draft.sums[*index].kind == kind).collect();
@@ -182,11 +190,13 @@ fn not_below(random: &mut Random, draft: &mut Draft) {
     let begin = Word(u.0[..u.len() - shared as usize].to_vec());
     let rest = Word(v.0[shared as usize..].to_vec());
     let none = Word::empty();
-    if random.one_in(2) {
-        // The overlap is certified by its own two products.
+    if random.one_in(2) && in_field(draft) {
+        // The overlap is certified by its own two products, each divided by its leading coefficient.
+        let p = draft.p;
+        let coef = |of: u64| inverse(p, lead_coef(&basis[of as usize - 1]));
         draft.sums.retain(|sum| (sum.kind, sum.item) != ('O', item));
-        draft.sums.push(Sum::new('O', item, 1, &none, first, &rest));
-        draft.sums.push(Sum::new('O', item, negative(draft.p, 1), &begin, second, &none));
+        draft.sums.push(Sum::new('O', item, coef(first), &none, first, &rest));
+        draft.sums.push(Sum::new('O', item, negative(p, coef(second)), &begin, second, &none));
     } else {
         let of = random.between(1, draft.basis);
         let alphabet: Vec<u8> = (b'a'..b'a' + draft.letters as u8).collect();

@@ -1,4 +1,4 @@
-//! Document 01's package E, and edits of it by line numbers.
+//! Document 01's package E, and edits of it by line numbers, or of any text.
 
 pub const E: &str = include_str!("../../../../examples/e.pkg");
 
@@ -35,6 +35,12 @@ pub fn made(counts: &str, terms: &[&str], sums: &[&str]) -> String {
     lines.push("kind item coef left of right");
     lines.extend(sums);
     ended(&lines)
+}
+
+/// A text with one part of it changed, which must stand there once.
+pub fn changed(text: &str, old: &str, new: &str) -> String {
+    assert_eq!(text.matches(old).count(), 1, "{old}");
+    text.replacen(old, new, 1)
 }
 
 fn ended(lines: &[&str]) -> String {

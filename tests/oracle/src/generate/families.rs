@@ -67,7 +67,7 @@ pub fn random_monomials(random: &mut Random, p: u64, letters: u64, alphabet: &[u
 }
 
 /// A code word of three letters: it begins with `a` and has no other `a`, so two code words never overlap.
-fn code(index: u64) -> Word {
+pub fn code(index: u64) -> Word {
     Word(vec![b'a', b'b' + (index / 25) as u8, b'b' + (index % 25) as u8])
 }
 

@@ -1,7 +1,7 @@
 //! Packages and formulas over GF(256) whose answers are fixed by the requirements, and other powers of primes
 //! in place of p.
 
-use crate::generate::edits::{made, E};
+use crate::generate::edits::{changed, made, E};
 use crate::generate::formula_rows::{text, FormulaRow};
 use crate::generate::package_rows::Row;
 
@@ -17,12 +17,6 @@ pub fn doubled_256() -> String {
     let basis = ["B 1 1 ab", "B 1 128 b", "B 1 3 -"];
     let sums = ["B 1 1 - 1 -", "G 1 1 - 1 -", "G 2 2 - 1 -"];
     made("256 2 2 1", &[&relations[..], &basis[..]].concat(), &sums)
-}
-
-/// A text with one part of it changed, which must stand there once.
-fn changed(text: &str, old: &str, new: &str) -> String {
-    assert_eq!(text.matches(old).count(), 1, "{old}");
-    text.replacen(old, new, 1)
 }
 
 pub fn package_rows_256() -> Vec<Row> {
@@ -57,7 +51,7 @@ impl Rows {
         self.put(changed(&e_256(), "256 2 1 2", "257 2 1 2"), 11, 2, 0);
     }
 
-    /// 1 to 255, in terms and in sums; a basis polynomial leads with 1.
+    /// 1 to 255, in terms and in sums. A basis polynomial with one coefficient changed is not its sum.
     fn coefficients(&mut self) {
         let e = e_256();
         for (coef, number) in [("0", 5), ("256", 5), ("257", 5), ("99999", 5), ("01", 2), ("0255", 2)] {
@@ -66,13 +60,15 @@ impl Rows {
         }
         self.put(changed(&e, "G 1 1 b", "G 1 255 b"), 11, 1, 0);
         self.put(changed(&e, "B 1 1 - 1 -", "B 1 255 - 1 -"), 11, 1, 0);
-        self.put(changed(&e, "B 1 1 aa", "B 1 255 aa"), 8, 1, 0);
+        self.put(changed(&e, "B 1 1 aa", "B 1 255 aa"), 11, 1, 0);
     }
 
     /// The inputs of the table of refusals, made with E over GF(256).
     fn table(&mut self) {
         let e = e_256();
         self.put(changed(&e, "G 1 1 aa\nG 1 1 b\n", "G 1 1 b\nG 1 1 aa\n"), 6, 5, 0);
+        self.put(changed(&e, "B 1 1 aa\nB 1 1 b\n", ""), 8, 1, 0);
+        self.put(changed(&e, "256 2 1 2", "256 2 1 3"), 8, 3, 0);
         self.put(changed(&e, "B 2 1 ab", "B 2 1 aab"), 9, 2, 0);
         self.put(changed(&e, "B 2 1 a 1 -\n", ""), 11, 2, 0);
         self.put(changed(&e, "G 1 1 - 1 -\n", ""), 12, 1, 0);

@@ -6,12 +6,21 @@ use crate::generate::dress::dress;
 use crate::generate::families;
 use crate::generate::random::Random;
 use crate::generate::relations::{alphabet, field, setting};
+use crate::generate::scale::scale_some;
 use crate::generate::stretch::stretched;
 
 /// How often a completion is tried before a family is taken instead.
 const TRIES: usize = 20;
 
+/// A valid package. About half of them have basis polynomials that lead with other coefficients than 1.
 pub fn valid(random: &mut Random) -> Draft {
+    let mut draft = unscaled(random);
+    scale_some(random, &mut draft);
+    draft
+}
+
+/// A valid package whose basis polynomials all lead with 1.
+pub fn unscaled(random: &mut Random) -> Draft {
     let mut draft = if random.one_in(4) { family(random) } else { completed(random) };
     dress(random, &mut draft);
     if random.one_in(4) {
@@ -56,19 +65,25 @@ fn family(random: &mut Random) -> Draft {
 mod tests {
     use super::*;
     use crate::coefficients::GF_256;
+    use crate::leads::leads_otherwise;
     use crate::services::check;
 
     #[test]
     fn generated_packages_are_accepted() {
-        let mut over_256 = 0;
+        // In all, and over GF(256).
+        let (mut over_256, mut scaled, mut scaled_256) = (0, 0, 0);
         for round in 0..600 {
             let draft = valid(&mut Random::new(1, round));
             let text = draft.text();
             let answer = check(&text);
             assert_eq!((answer.number, answer.place), (0, 0), "{}", String::from_utf8_lossy(&text));
             over_256 += u64::from(draft.p == GF_256);
+            scaled += u64::from(leads_otherwise(&text));
+            scaled_256 += u64::from(draft.p == GF_256 && leads_otherwise(&text));
         }
         assert!(over_256 >= 90, "{over_256} over GF(256)");
+        assert!((240..360).contains(&scaled), "{scaled} lead with other coefficients than 1");
+        assert!(2 * scaled_256 >= over_256, "{scaled_256} of {over_256} over GF(256)");
     }
 
     #[test]

@@ -12,6 +12,8 @@ const GUARD: usize = 64;
 pub struct Expected {
     pub numbers: Numbers,
     pub output: Vec<u8>,
+    /// Of the steps, those with a polynomial that leads with another coefficient than 1. The library does not say it.
+    pub divided: u64,
 }
 
 pub fn expect(input: &Input) -> Expected {
@@ -24,7 +26,7 @@ pub fn expect(input: &Input) -> Expected {
     let output = answer.output.unwrap_or_default();
     let last = if input.service == Service::Member { answer.member } else { output.len() as u64 };
     let numbers = Numbers { number: answer.number, place: answer.place, count: answer.count, last };
-    Expected { numbers, output }
+    Expected { numbers, output, divided: answer.divided }
 }
 
 /// Calls the library.

@@ -1,11 +1,17 @@
 //! Every small change of some kinds: all cuts of E, all its lines dropped, doubled and exchanged, some bytes
-//! put at every place; many values of p; and every product of two elements of GF(256) other than 0.
+//! put at every place; many values of p; every product of two elements of GF(256) other than 0; and every pair of
+//! leading coefficients of E, and inverses of leading coefficients in many fields.
 
 use crate::input::{Input, Service, SERVICES};
 use crate::surround::Sink;
+use oracle::generate::draft::Draft;
 use oracle::generate::edits::{made, E};
+use oracle::generate::inverses::{every_inverse, Inverses};
 use oracle::generate::products::every_product;
 use oracle::generate::rows_256::e_256;
+use oracle::generate::scale::scale;
+use oracle::generate::scaled_rows::scaled_e;
+use oracle::package::read;
 
 const FORMULA: &[u8] = b"coef word\n1 aba\n";
 
@@ -18,6 +24,7 @@ pub fn exhaustive(sink: Sink) {
     }
     every_line(E, sink);
     every_line(&e_256(), sink);
+    every_line(&scaled_e(), sink);
     for place in 0..E.len() {
         for byte in b" \n0a-" {
             let mut bytes = E.as_bytes().to_vec();
@@ -32,6 +39,35 @@ pub fn exhaustive(sink: Sink) {
             sink(&Input { service, package: &package, formula, budget, out_len, null: false });
         }
     }
+    every_lead(sink);
+}
+
+/// E with every pair of leading coefficients, over GF(256) each element and another; and inverses in many fields.
+fn every_lead(sink: Sink) {
+    let pairs = (1..7).flat_map(|c| (1..7).map(move |d| (c, d)));
+    let scaled = pairs.map(|(c, d)| times(E, c, d));
+    // 7 × c modulo 255 meets every residue, so each element is a second leading coefficient too.
+    let over_256 = (1..256).map(|c| times(&e_256(), c, 7 * c % 255 + 1));
+    for package in scaled.chain(over_256) {
+        for service in [Service::Check, Service::ShortForm] {
+            let (formula, budget, out_len) = (FORMULA, 2, 100);
+            sink(&Input { service, package: &package, formula, budget, out_len, null: false });
+        }
+    }
+    for Inverses { package, formulas, .. } in every_inverse() {
+        for formula in &formulas {
+            let (service, budget, out_len) = (Service::ShortForm, 32, 10_000);
+            sink(&Input { service, package: &package, formula, budget, out_len, null: false });
+        }
+    }
+}
+
+/// A package of two basis polynomials, each multiplied.
+fn times(package: &str, first: u64, second: u64) -> Vec<u8> {
+    let mut draft = Draft::of_package(&read(package.as_bytes()).expect("a package that reads"));
+    scale(&mut draft, 1, first);
+    scale(&mut draft, 2, second);
+    draft.text()
 }
 
 /// Each line dropped and doubled, and each two exchanged.

@@ -6,11 +6,13 @@ use oracle::formula::formula_text;
 use oracle::generate::bound_packages::bound_packages;
 use oracle::generate::edits::E;
 use oracle::generate::families;
-use oracle::generate::formula_rows::formula_rows;
+use oracle::generate::formula_rows::{formula_rows, FormulaRow};
 use oracle::generate::growth::{spreading, spreading_formula};
 use oracle::generate::package_rows::package_rows;
 use oracle::generate::random::Random;
 use oracle::generate::rows_256::{doubled_256, e_256, formula_rows_256, package_rows_256};
+use oracle::generate::scale::scale_all;
+use oracle::generate::scaled_rows::{scaled_formula_rows, scaled_package_rows};
 use oracle::services::short_form;
 use std::collections::BTreeSet;
 
@@ -18,7 +20,8 @@ pub fn fixed(sink: Sink) {
     let random = &mut Random::new(0, 1);
     empty_slices(sink);
     let formula = b"coef word\n1 ab\n";
-    for row in package_rows().iter().chain(&package_rows_256()).chain(&bound_packages()) {
+    let rows = [package_rows(), package_rows_256(), scaled_package_rows(), bound_packages()];
+    for row in rows.iter().flatten() {
         for service in SERVICES {
             let input =
                 Input { service, package: &row.package, formula, budget: 2, out_len: 300_000, null: false };
@@ -40,6 +43,7 @@ pub fn fixed(sink: Sink) {
         }
     }
     over_256(random, sink);
+    scaled(random, sink);
     growing(random, sink);
     counting(sink);
 }
@@ -59,6 +63,22 @@ fn over_256(random: &mut Random, sink: Sink) {
         for formula in &formulas {
             around_formula(random, &package, formula, sink);
         }
+    }
+}
+
+/// Formulas with known answers under packages that lead with other coefficients than 1, and around those of them
+/// that get a short form.
+fn scaled(random: &mut Random, sink: Sink) {
+    for (package, rows) in scaled_formula_rows() {
+        let package = package.as_bytes();
+        for FormulaRow { formula, budget, .. } in &rows {
+            for service in [Service::ShortForm, Service::Member] {
+                sink(&Input { service, package, formula, budget: *budget, out_len: 100, null: false });
+            }
+        }
+        let answered = rows.iter().filter(|row| row.number == 0);
+        let formulas: BTreeSet<&[u8]> = answered.map(|row| &row.formula[..]).collect();
+        formulas.into_iter().for_each(|formula| around_formula(random, package, formula, sink));
     }
 }
 
@@ -92,6 +112,15 @@ fn growing(random: &mut Random, sink: Sink) {
                     around_formula(random, &package, &output, sink);
                 }
             }
+        }
+    }
+    // The same with other leading coefficients than 1.
+    for p in [7, 256, 65_521] {
+        for (terms, reducible) in [(31, 16), (31, 17), (33, 14), (33, 15)] {
+            let mut draft = spreading(random, p, terms);
+            scale_all(random, &mut draft);
+            let formula = formula_text(&spreading_formula(random, p, 48, reducible));
+            around_formula(random, &draft.text(), &formula, sink);
         }
     }
 }

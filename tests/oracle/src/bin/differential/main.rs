@@ -13,6 +13,7 @@ mod fixed;
 mod input;
 mod options;
 mod packing;
+mod part;
 mod round;
 mod standing;
 mod surround;

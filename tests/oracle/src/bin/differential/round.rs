@@ -11,6 +11,7 @@ use oracle::generate::formulas::Ground;
 use oracle::generate::growth::{growing_sum, meeting_formula, spreading, spreading_formula, Lines};
 use oracle::generate::random::Random;
 use oracle::generate::relations::field;
+use oracle::generate::scale::scale_some;
 use oracle::generate::valid::valid;
 
 /// How many rounds one of them takes an example package instead of a generated one.
@@ -21,7 +22,7 @@ const EXAMPLE: u64 = 40;
 const AIMS: [u64; 18] = [3, 4, 5, 5, 6, 6, 8, 9, 9, 11, 12, 13, 13, 14, 14, 14, 15, 16];
 
 pub fn round(random: &mut Random, examples: &[Draft], sink: Sink) {
-    let draft = if random.one_in(EXAMPLE) { random.pick(examples).clone() } else { valid(random) };
+    let draft = if random.one_in(EXAMPLE) { example(random, examples) } else { valid(random) };
     let ground = Ground::of(&draft);
     let package = draft.text();
     all_services(random, &package, b"coef word\n", sink);
@@ -66,6 +67,13 @@ pub fn round(random: &mut Random, examples: &[Draft], sink: Sink) {
     }
 }
 
+/// An example package, often with other leading coefficients.
+fn example(random: &mut Random, examples: &[Draft]) -> Draft {
+    let mut draft = random.pick(examples).clone();
+    scale_some(random, &mut draft);
+    draft
+}
+
 /// The four services on one package, the formula damaged now and then.
 fn all_services(random: &mut Random, package: &[u8], formula: &[u8], sink: Sink) {
     let formula = if random.one_in(4) { damage(random, formula) } else { formula.to_vec() };
@@ -83,10 +91,13 @@ fn growing(random: &mut Random, sink: Sink) {
     let kind = *random.pick(&['B', 'G', 'O']);
     let top = random.between(505, 520) as usize;
     let lines = if random.one_in(2) { Lines::Mixed } else { Lines::UpAndDown };
-    let package = growing_sum(random, p, kind, top, lines).text();
-    all_services(random, &package, b"coef word\n1 acac\n", sink);
+    let mut draft = growing_sum(random, p, kind, top, lines);
+    scale_some(random, &mut draft);
+    all_services(random, &draft.text(), b"coef word\n1 acac\n", sink);
     let terms = random.between(20, 48) as usize;
-    let package = spreading(random, p, terms).text();
+    let mut draft = spreading(random, p, terms);
+    scale_some(random, &mut draft);
+    let package = draft.text();
     let formula = if random.one_in(2) {
         let (terms, reducible) = (random.between(40, 48) as usize, random.between(8, 40) as usize);
         spreading_formula(random, p, terms, reducible)

@@ -1,13 +1,9 @@
-//! How often each service gave each number, over all fields and over GF(256), so that the test cannot
+//! How often each service gave each number, over all inputs and over parts of them, so that the test cannot
 //! silently stop testing.
 
 use crate::compare::Expected;
 use crate::input::{Input, Service, SERVICES};
-use oracle::coefficients::GF_256;
-use oracle::package::stated_p;
-
-/// So many random rounds must reach GF(256): one in five is over it.
-const ROUNDS: u64 = 20;
+use crate::part::{parts, Part, PARTS};
 
 #[derive(Default)]
 struct Counts {
@@ -16,17 +12,8 @@ struct Counts {
     stepped: u64,
     /// Formulas that are members.
     members: u64,
-}
-
-#[derive(Default)]
-pub struct Tally {
-    all: Counts,
-    /// Inputs whose package states 256 in place of p.
-    over_256: Counts,
-    /// Those of them that are of random rounds.
-    drawn_256: Counts,
-    /// How many random rounds there were.
-    pub rounds: u64,
+    /// Steps with a polynomial that leads with another coefficient than 1.
+    divided: u64,
 }
 
 impl Counts {
@@ -35,6 +22,7 @@ impl Counts {
         self.numbers[service as usize][numbers.number as usize] += 1;
         self.stepped += u64::from(service == Service::ShortForm && numbers.count > 0);
         self.members += u64::from(service == Service::Member && numbers.last == 1);
+        self.divided += expected.divided;
     }
 
     fn of(&self, service: Service, number: usize) -> u64 {
@@ -45,96 +33,114 @@ impl Counts {
         self.numbers.iter().flatten().sum()
     }
 
-    /// What is reached at all, each with its count.
-    fn reached(&self) -> [(&'static str, u64); 6] {
-        [
+    /// Inputs whose package was judged whole and accepted: the answer is 0 or what comes after the package. Listing
+    /// does not judge a package whole.
+    fn accepted(&self) -> u64 {
+        let accepted = |service| [0, 16, 17, 18, 19].map(|number| self.of(service, number)).iter().sum();
+        [Service::Check, Service::ShortForm, Service::Member].map(accepted).iter().sum::<u64>()
+    }
+
+    /// What is to be reached in a part, each with its count.
+    fn reached(&self, part: Part) -> Vec<(&'static str, u64)> {
+        let mut reached = vec![
             ("inputs", self.inputs()),
+            ("under accepted packages", self.accepted()),
             ("packages accepted", self.of(Service::Check, 0)),
             ("short forms", self.of(Service::ShortForm, 0)),
             ("short forms after steps", self.stepped),
             ("memberships answered", self.of(Service::Member, 0)),
             ("members", self.members),
-        ]
+        ];
+        if part.is_scaled() {
+            reached.push(("steps with another leading coefficient", self.divided));
+        }
+        reached
     }
 }
 
-/// Whether a service can answer with this number. Over GF(256) none gives 3: p is in order.
-fn can_answer(service: Service, number: usize, over_256: bool) -> bool {
-    service.can_answer(number) && !(over_256 && number == 3)
+#[derive(Default)]
+pub struct Tally {
+    /// By part.
+    whole: [Counts; 4],
+    /// Those of random rounds.
+    drawn: [Counts; 4],
+    /// How many random rounds there were.
+    pub rounds: u64,
 }
 
 impl Tally {
     pub fn count(&mut self, input: &Input, expected: &Expected) {
-        self.all.count(input.service, expected);
-        if stated_p(input.package) == Some(GF_256) {
-            self.over_256.count(input.service, expected);
+        for part in parts(input.package) {
+            self.whole[part as usize].count(input.service, expected);
             if self.rounds > 0 {
-                self.drawn_256.count(input.service, expected);
+                self.drawn[part as usize].count(input.service, expected);
             }
         }
     }
 
     pub fn inputs(&self) -> u64 {
-        self.all.inputs()
+        self.whole[Part::All as usize].inputs()
     }
 
-    fn counts(&self, over_256: bool) -> &Counts {
-        if over_256 {
-            &self.over_256
-        } else {
-            &self.all
+    /// Prints the tables of numbers, and what was reached in each part.
+    pub fn print(&self) {
+        for two in PARTS.chunks(2) {
+            self.print_numbers(two);
+        }
+        let rounds = format!(" in {} random rounds", self.rounds);
+        for part in PARTS {
+            for (what, counts) in [("", &self.whole), (&rounds, &self.drawn)] {
+                let reached = counts[part as usize].reached(part);
+                let shown: Vec<String> =
+                    reached.iter().map(|(name, count)| format!("{count} {name}")).collect();
+                println!("{}{what}: {}", part.name(), shown.join(", "));
+            }
         }
     }
 
-    /// Prints the table of numbers, and what was reached over GF(256).
-    pub fn print(&self) {
-        println!("{:10} {:^47}    {:^47}", "", "all inputs", "over GF(256)");
-        row("number", |_, service| service.name().to_string());
+    /// Prints a table of numbers: a column for each service in each of these parts.
+    fn print_numbers(&self, parts: &[Part]) {
+        let row = |head: &str, cell: &dyn Fn(Part, Service) -> String| {
+            let side =
+                |part: &Part| SERVICES.map(|service| format!("{:>11}", cell(*part, service))).join(" ");
+            println!("{head:<10} {}", parts.iter().map(side).collect::<Vec<_>>().join("    "));
+        };
+        let names: Vec<String> = parts.iter().map(|part| format!("{:^47}", part.name())).collect();
+        println!("{:10} {}", "", names.join("    "));
+        row("number", &|_, service| service.name().to_string());
         for number in 0..20 {
-            row(&number.to_string(), |over_256, service| match self.counts(over_256).of(service, number) {
-                0 if !can_answer(service, number, over_256) => "-".to_string(),
+            row(&number.to_string(), &|part, service| match self.whole[part as usize].of(service, number) {
+                0 if !part.can_answer(service, number) => "-".to_string(),
                 count => count.to_string(),
             });
         }
-        row("all", |over_256, service| {
-            self.counts(over_256).numbers[service as usize].iter().sum::<u64>().to_string()
+        row("all", &|part, service| {
+            self.whole[part as usize].numbers[service as usize].iter().sum::<u64>().to_string()
         });
-        let rounds = format!(" in {} random rounds", self.rounds);
-        for (what, counts) in [("", &self.over_256), (&rounds, &self.drawn_256)] {
-            let reached = counts.reached().map(|(name, count)| format!("{count} {name}"));
-            println!("over GF(256){what}: {}", reached.join(", "));
-        }
     }
 
-    /// The numbers that a service can give and never gave, and what was not reached over GF(256).
+    /// The numbers that a service can give and never gave, and what was not reached, in each part.
     pub fn missing(&self) -> Vec<String> {
         let mut missing = Vec::new();
-        for over_256 in [false, true] {
-            let counts = self.counts(over_256);
-            let field = if over_256 { " over GF(256)" } else { "" };
+        for part in PARTS {
+            let counts = &self.whole[part as usize];
             for service in SERVICES {
-                for number in (0..20).filter(|number| can_answer(service, *number, over_256)) {
+                for number in (0..20).filter(|number| part.can_answer(service, *number)) {
                     if counts.of(service, number) == 0 {
-                        missing.push(format!("{} never answered {number}{field}", service.name()));
+                        missing.push(format!("{} never answered {number}, {}", service.name(), part.name()));
                     }
                 }
             }
-        }
-        let mut sides = vec![("", &self.over_256)];
-        if self.rounds >= ROUNDS {
-            sides.push((" in random rounds", &self.drawn_256));
-        }
-        for (what, counts) in sides {
-            for (name, _) in counts.reached().into_iter().filter(|(_, count)| *count == 0) {
-                missing.push(format!("no {name} over GF(256){what}"));
+            let mut sides = vec![("", counts)];
+            if self.rounds >= part.rounds() {
+                sides.push((" in random rounds", &self.drawn[part as usize]));
+            }
+            for (what, counts) in sides {
+                for (name, _) in counts.reached(part).into_iter().filter(|(_, count)| *count == 0) {
+                    missing.push(format!("no {name}, {}{what}", part.name()));
+                }
             }
         }
         missing
     }
-}
-
-/// Prints a row of the table: a cell for each service, over all inputs and over GF(256).
-fn row(head: &str, cell: impl Fn(bool, Service) -> String) {
-    let side = |over_256| SERVICES.map(|service| format!("{:>11}", cell(over_256, service))).join(" ");
-    println!("{head:<10} {}    {}", side(false), side(true));
 }
