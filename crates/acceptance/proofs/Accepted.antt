@@ -3,30 +3,30 @@ use mathlib.Core.Path.{_≡_, refl, sym, _∙_, ap, subst}
 use mathlib.Core.Bool.{Bool, true, false}
 use mathlib.Core.Logic.{_≢_, _⊎_, inl, inr}
 use mathlib.Core.List.{List, [], _∷_, List·Memᴰ, List·Memᴰ·head, List·Memᴰ·tail}
-use Prim.Native.Nat.{ℕ, zero, suc, _≤_, _<_}
+use Prim.Native.Nat.{ℕ, zero, suc, _<_}
 use native.Mathlib.Omega.{arith}
 use lib.Dec.{eqb}
 use lib.ListN.{length, getD}
 use Rattle.field.specs.Field.{Operations, Field}
 use Rattle.lists.specs.All.{All, done, _also_}
-use Rattle.words.specs.Order.{Order, Lt, Admissible}
+use Rattle.words.specs.Order.{Order, Admissible}
 use Rattle.words.specs.Place.{Stands}
 use Rattle.algebra.specs.Poly.{Poly}
 use Rattle.algebra.specs.Written.{Written}
 use Rattle.algebra.specs.Ideal.{Family, family, Line, Over, InIdeal}
-use Rattle.algebra.specs.Groebner.{lead, Led, Certified}
+use Rattle.algebra.specs.Groebner.{lead, Led}
 use Rattle.algebra.specs.Short.{Accepted}
 use Rattle.algebra.proofs.Sums.{ideal-zero}
 use Rattle.algebra.proofs.Leading.{led-ne-nil}
 use Rattle.algebra.proofs.WrittenForm.{written-led}
 use Rattle.working.proofs.Families.{family-written}
-use Rattle.overlaps.specs.Overlaps.{Overlap, Overlapping, IsOverlap, leads, overlaps}
+use Rattle.overlaps.specs.Overlaps.{Overlap, Overlapping, leads, overlaps}
 use Rattle.overlaps.proofs.Listed.{listed-iff}
 use Rattle.overlaps.proofs.Certification.{lead-of, Certifies, overlaps-resolved, inclusions-none}
 use Rattle.package.specs.Names.{sumB, sumG, sumO}
 use Rattle.package.specs.Sums.{SumLine}
 use Rattle.acceptance.specs.Content.{lineOf, sumOf, linesOf}
-use Rattle.acceptance.specs.Facts.{SumHolds, overlapAt, Facts}
+use Rattle.acceptance.specs.Facts.{SumHolds, Facts}
 
 -- a member of a list stands at some place
 member-at : {A : Type 0} {x : A} {xs : List A} (d : A) → List·Memᴰ x xs → (i : ℕ) × (i < length xs) × (getD xs i d ≡ x)

@@ -5,7 +5,6 @@ use mathlib.Core.List.{List, [], _∷_, cons≢nil}
 use Prim.Native.Nat.{ℕ, zero, suc, _+_, _-_, _≤_, _<_}
 use native.Mathlib.Decide.{decLt}
 use native.Mathlib.Omega.{arith}
-use lib.ListN.{length}
 use Rattle.lists.proofs.Every.{all-at}
 use Rattle.algebra.specs.Poly.{Term, Poly}
 use Rattle.algebra.specs.Ideal.{family}

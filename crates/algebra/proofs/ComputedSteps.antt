@@ -1,8 +1,8 @@
 -- The step that is computed is a step of the theory (source document 002, definition 3.4.1): the line that it takes away is the word's coefficient ×
 -- left × (the polynomial divided by its leading coefficient) × right, so that the word goes. Where the polynomial leads with 1, nothing is divided.
-use mathlib.Core.Path.{_≡_, refl, sym, _∙_, ap}
+use mathlib.Core.Path.{_≡_, sym, _∙_}
 use mathlib.Core.Logic.{_≢_, _⊎_, inl, inr}
-use mathlib.Core.List.{List, [], _∷_}
+use mathlib.Core.List.{List, []}
 use Prim.Native.Nat.{ℕ, _<_}
 use Rattle.field.specs.Field.{Operations, Field}
 use Rattle.field.proofs.Derived.{divided-by-one}

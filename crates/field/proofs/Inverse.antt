@@ -1,11 +1,11 @@
 -- The inverse as a loop computes it modulo p: the factor so far, times the inverse of what is left, is the inverse that is sought.
 use mathlib.Core.Path.{_≡_, refl, sym, _∙_, ap}
-use mathlib.Core.Logic.{_≢_, ite, if-pos, if-neg}
+use mathlib.Core.Logic.{_≢_, if-pos, if-neg}
 use Prim.Native.Nat.{ℕ, zero, suc, _-_, _*_, _/_, _%_, _≤_, _<_}
 use native.Mathlib.Nat.{mod-lt, mod-eq-of-lt, mul-assoc, mul-one}
-use native.Mathlib.Decide.{decLt, ℕ-discrete}
+use native.Mathlib.Decide.{decLt}
 use native.Mathlib.Omega.{arith}
-use Rattle.field.specs.Field.{Operations, inverseMod, modular, gf256, fieldOf}
+use Rattle.field.specs.Field.{Operations, inverseMod, modular, fieldOf}
 use Rattle.field.proofs.Modular.{mod-mul-mod, mul-mod-mod}
 use Rattle.field.proofs.ByteField.{inverse-byte, inverse-of-one}
 use Rattle.field.proofs.Fields.{field-other, by-field}

@@ -1,14 +1,14 @@
 -- A basis with no leading word inside another polynomial's is certified by lines for each listed overlap.
 use mathlib.Core.Path.{_≡_, refl, sym, _∙_, ap}
-use mathlib.Core.Logic.{_≢_, _⊎_, inl, inr}
-use mathlib.Core.List.{List, [], _∷_, _++_, append-nil}
-use Prim.Native.Nat.{ℕ, zero, suc, _+_, _-_, _≤_, _<_}
+use mathlib.Core.Logic.{_≢_}
+use mathlib.Core.List.{List, [], _∷_, _++_}
+use Prim.Native.Nat.{ℕ, zero, suc, _+_, _-_, _<_}
 use native.Mathlib.Omega.{arith}
 use lib.ListN.{length, take, drop, getD, length-append}
 use lib.Seq.{take-at, drop-at, take-append-seam, drop-append-seam}
 use Rattle.field.specs.Field.{Operations, Field}
-use Rattle.lists.specs.All.{All, done, _also_}
-use Rattle.words.specs.Word.{Word, around}
+use Rattle.lists.specs.All.{All}
+use Rattle.words.specs.Word.{Word}
 use Rattle.words.specs.Order.{Order, Lt, Admissible}
 use Rattle.words.specs.Place.{Stands}
 use Rattle.algebra.specs.Poly.{Poly, Same}

@@ -8,7 +8,7 @@ use Rattle.field.specs.Field.{Operations, Field}
 use Rattle.field.proofs.Derived.{neg-eq-mul}
 use Rattle.words.specs.Word.{Word}
 use Rattle.words.specs.Order.{Order, Admissible}
-use Rattle.algebra.specs.Poly.{Term, Poly, scale, shift, sub}
+use Rattle.algebra.specs.Poly.{Poly, scale, shift, sub}
 use Rattle.algebra.specs.Ideal.{Family}
 use Rattle.algebra.specs.Groebner.{lead, leadCoef, monic}
 use Rattle.algebra.specs.Written as Wr

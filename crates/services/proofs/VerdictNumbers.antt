@@ -14,7 +14,7 @@ use Rattle.algebra.specs.Poly.{Poly}
 use Rattle.algebra.specs.Written.{written}
 use Rattle.algebra.specs.Ideal.{Family, family}
 use Rattle.overlaps.specs.Overlaps.{Overlap, leads, overlaps, overlapWord, difference}
-use Rattle.package.specs.Names.{sumB, sumG, sumO}
+use Rattle.package.specs.Names.{sumO}
 use Rattle.package.specs.Sums.{SumLine}
 use Rattle.package.specs.Package.{Package}
 use Rattle.acceptance.specs.Content.{relations, basis, sumOf}

@@ -1,5 +1,5 @@
 -- Every service refuses by 8, with the number of the first, the packages that have a zero polynomial in their basis (`ZeroBasis`), and no others.
-use mathlib.Core.Path.{_≡_, refl, sym, _∙_, ap}
+use mathlib.Core.Path.{_≡_, refl, ap}
 use mathlib.Core.Logic.{_≢_, _⊎_, inl, inr}
 use mathlib.Core.List.{List}
 use Prim.Native.Nat.{ℕ}

@@ -1,6 +1,5 @@
 -- The difference of an overlap, as it is added up: the first side placed, and the second taken away, each with the inverse of its leading coefficient.
 use mathlib.Core.Path.{_≡_, sym, ap, ap₂, _∙_}
-use mathlib.Core.Logic.{_≢_}
 use mathlib.Core.List.{List, []}
 use Prim.Native.Nat.{ℕ, suc, _+_, _<_}
 use Rattle.words.specs.Word.{Word}

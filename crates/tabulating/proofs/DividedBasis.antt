@@ -1,15 +1,15 @@
 -- The basis polynomials of a table divided one after the other.
-use mathlib.Core.Path.{_≡_, refl, sym, _∙_, ap, ap₂}
-use mathlib.Core.List.{List, [], _∷_, map}
-use Prim.Native.Nat.{ℕ, zero, suc, _+_, _≤_, _<_}
+use mathlib.Core.Path.{_≡_, refl, _∙_, ap, ap₂}
+use mathlib.Core.List.{List, map}
+use Prim.Native.Nat.{ℕ, suc, _+_, _≤_, _<_}
 use native.Mathlib.Decide.{decLt}
 use native.Mathlib.Omega.{arith}
-use Rattle.algebra.specs.Poly.{Poly}
 use Rattle.algebra.specs.Groebner.{monic}
 use Rattle.table.specs.Table.{primeIn, lettersIn, gensIn, basisCountIn, fieldIn}
 use Rattle.table.specs.Polynomials.{polynomialIn, polynomialsIn, basisIn}
 use Rattle.table.specs.Tabled.{Tabled}
 use Rattle.tabulating.specs.Divided.{ItemDivided}
+use Rattle.tabulating.proofs.ItemLists.{polynomials-map}
 
 -- The first n polynomials of the basis are divided, and the others are not.
 pub record DividedBelow (t : List ℕ) (n : ℕ) (u : List ℕ) : Type 0 where
@@ -55,15 +55,6 @@ divided-more t u v n h D I = record {
         rw e (own ∙ ap (monic (fieldIn t)) (D .left n (omega arith) h))
 
 -- All of them.
-polynomials-map : (F : Poly → Poly) (t u : List ℕ) (j n : ℕ) → ((k : ℕ) → k < n → polynomialIn u (j + k) ≡ F (polynomialIn t (j + k)))
-    → polynomialsIn u j n ≡ map F (polynomialsIn t j n)
-unfolding polynomialsIn
-polynomials-map F t u j zero h = refl
-polynomials-map F t u j (suc n) h =
-    let e : j + 0 ≡ j = omega arith in
-    ap₂ _∷_ (rw e at (h 0 (omega arith)))
-    (polynomials-map F t u (suc j) n (λ k l. let q : j + suc k ≡ suc j + k = omega arith in rw q at (h (suc k) (omega arith))))
-
 pub divided-all : (t u : List ℕ) (n : ℕ) → basisCountIn t ≤ n → DividedBelow t n u → basisIn u ≡ map (monic (fieldIn t)) (basisIn t)
 divided-all t u n h D =
     ap₂ (λ (a b : ℕ). polynomialsIn u (a + 1) b) (D .gens) (D .count)

@@ -1,23 +1,22 @@
 -- A table with the rows of one basis polynomial multiplied by the inverse of its leading coefficient, and 1 for that inverse, is the table with that
 -- polynomial divided.
 use mathlib.Core.Path.{_≡_, refl, sym, _∙_, ap, ap₂, subst}
-use mathlib.Core.Logic.{_≢_, _⊎_, inl, inr}
-use mathlib.Core.List.{List, [], _∷_, cons≢nil}
+use mathlib.Core.Logic.{_≢_}
+use mathlib.Core.List.{List, []}
 use Prim.Native.Nat.{ℕ, zero, suc, _+_, _-_, _*_, _/_, _%_, _≤_, _<_}
 use native.Mathlib.Numerals.{one-add}
 use native.Mathlib.Decide.{decLt, ℕ-discrete}
 use native.Mathlib.Omega.{arith}
 use lib.ListN.{length, getD, set, length-set}
 use lib.Seq.{getD-set-same, getD-set-other, ext-getD}
-use Rattle.lists.specs.All.{All, done, _also_}
+use Rattle.lists.specs.All.{All}
 use Rattle.lists.proofs.Every.{all-at}
 use Rattle.lists.proofs.Entries.{part-at}
 use Rattle.lists.proofs.Parts.{part-length}
-use Rattle.field.specs.Field.{Operations, Field}
 use Rattle.field.proofs.Fields.{below-of}
 use Rattle.field.proofs.Inverse.{inv-one}
 use Rattle.words.specs.Word.{Word}
-use Rattle.algebra.specs.Poly.{Term, Poly, scale}
+use Rattle.algebra.specs.Poly.{Poly, scale}
 use Rattle.algebra.specs.Ideal.{family}
 use Rattle.algebra.specs.Groebner.{leadCoef, monic}
 use Rattle.algebra.specs.Written.{Written}
@@ -25,30 +24,15 @@ use Rattle.algebra.proofs.Lines.{shift-nil}
 use Rattle.algebra.proofs.WrittenForm.{written-multiple, scale-one}
 use Rattle.working.specs.Working.{terms}
 use Rattle.working.proofs.Terms.{terms-same}
-use Rattle.table.specs.Table.{primeIn, lettersIn, gensIn, basisCountIn, termsIn, itemsIn, fieldIn, orderIn, inverseIn, firstIn, coefIn, sizeIn, blocksIn}
-use Rattle.table.specs.Polynomials.{wordIn, termIn, polynomialIn, polynomialsIn, relationsIn, basisIn}
+use Rattle.table.specs.Table.{primeIn, gensIn, basisCountIn, termsIn, itemsIn, fieldIn, orderIn, inverseIn, firstIn, coefIn, sizeIn, blocksIn}
+use Rattle.table.specs.Polynomials.{wordIn, termIn, polynomialIn, relationsIn, basisIn}
 use Rattle.table.specs.Tabled.{Tabled}
 use Rattle.table.proofs.Families.{polynomials-count, family-relations, family-basis}
-use Rattle.table.proofs.Inverses.{basis-some, inverse-some, inverse-lead}
+use Rattle.table.proofs.Inverses.{inverse-some, inverse-lead}
 use Rattle.tabulating.specs.Divided.{RowsScaled, ItemDivided}
+use Rattle.tabulating.proofs.ItemLists.{polynomials-all, terms-scaled, scaled-some}
 use Rattle.tabulating.proofs.KeptKeys.{keys-kept}
 use Rattle.tabulating.proofs.KeptWords.{word-kept, held-kept, suits-kept}
-
--- what holds of each of n polynomials holds of all
-polynomials-all : (P : Poly → Type 0) (t : List ℕ) (j n : ℕ) → ((k : ℕ) → k < n → P (polynomialIn t (j + k))) → All P (polynomialsIn t j n)
-unfolding polynomialsIn
-polynomials-all P t j zero h = done
-polynomials-all P t j (suc n) h =
-    let e : j + 0 ≡ j = omega arith in
-    subst (λ (k : ℕ). P (polynomialIn t k)) e (h 0 (omega arith))
-    also polynomials-all P t (suc j) n (λ k l. let q : j + suc k ≡ suc j + k = omega arith in subst (λ (i : ℕ). P (polynomialIn t i)) q (h (suc k) (omega arith)))
-
--- every term times y
-terms-scaled : (F G : ℕ → Term) (y : ℕ) (K : Operations) (i n : ℕ)
-    → ((j : ℕ) → i ≤ j → j < i + n → G j ≡ record { coef = K .mul y (F j .coef); word = F j .word }) → terms G i n ≡ scale K y (terms F i n)
-unfolding terms scale
-terms-scaled F G y K i zero h = refl
-terms-scaled F G y K i (suc n) h = ap₂ _∷_ (h i (omega arith) (omega arith)) (terms-scaled F G y K (suc i) n (λ j a b. h j (omega arith) (omega arith)))
 
 module _ (t u : List ℕ) (T : Tabled t) (g : ℕ) (h : g < basisCountIn t) where
   abbrev item : ℕ
@@ -217,11 +201,6 @@ module _ (t u : List ℕ) (T : Tabled t) (g : ℕ) (h : g < basisCountIn t) wher
     own-written =
         rw (polynomial-own, ← shift-nil (polynomialIn t item))
         (written-multiple (T .field) (T .suits .admissible) (inverseIn t g) [] [] (inverse-some t T g h) (basis-at (Written (fieldIn t) (orderIn t)) (T .basis-written) g h))
-
-    scaled-some : (K : Operations) (y : ℕ) (f : Poly) → f ≢ [] → (scale K y f ≢ []) × (leadCoef (scale K y f) ≡ K .mul y (leadCoef f))
-    unfolding scale leadCoef
-    scaled-some K y [] n = absurd (n refl)
-    scaled-some K y (s ∷ f) n = (cons≢nil, refl)
 
     own-some : (polynomialIn v item ≢ []) × (leadCoef (polynomialIn v item) ≡ 1)
     own-some =

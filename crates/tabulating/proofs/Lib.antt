@@ -5,6 +5,7 @@ pub mod PlainKeys
 pub mod TermRows
 pub mod KeptWords
 pub mod ScaledRows
+pub mod ItemLists
 pub mod DividedItem
 pub mod DividedBasis
 pub mod LeadingCoefs

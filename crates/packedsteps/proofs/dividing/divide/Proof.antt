@@ -1,8 +1,7 @@
 -- `divide` multiplies with the inverse.
-use mathlib.Core.Path.{_≡_, sym, ap, _∙_}
-use Prim.Native.Nat.{ℕ, suc, _-_}
+use mathlib.Core.Path.{sym, _∙_}
+use Prim.Native.Nat.{_-_}
 use native.Mathlib.Omega.{arith}
-use Rattle.table.specs.Table.{inverseIn}
 use Rattle.packedsteps.proofs.StepLaws.{divided-one, divided-is}
 use borrow.Author.Needs.{needs}
 use Rattle.packedsteps.proofs.dividing.divide.Statement.{statement}
