@@ -32,7 +32,7 @@ unfoldable pub thenJudge : Verdict → Verdict → Verdict
 thenJudge (refusal n k) v = refusal n k
 thenJudge fine v = v
 
--- 8: the first polynomial, numbered from i on, that is zero.
+-- 8 (document 02, P4): the first polynomial, numbered from i on, that is zero.
 unfoldable pub leadsJudged : List Poly → ℕ → Verdict
 leadsJudged [] i = fine
 leadsJudged ([] ∷ ps) i = refusal 8 i

@@ -1,4 +1,4 @@
--- The facts of acceptance (document 01), as statements about polynomials, with no order of judgement and no procedure.
+-- The facts of acceptance (document 01, and document 02, P4), as statements about polynomials, with no order of judgement and no procedure.
 use mathlib.Core.Path.{_≡_}
 use mathlib.Core.Logic.{_≢_}
 use mathlib.Core.List.{List, [], _∷_, _++_}

@@ -16,7 +16,7 @@ pub record FirstZero (ps : List Poly) (i : ℕ) : Type 0 where
   pub zero : family ps i ≡ []
   pub before : (k : ℕ) → 1 ≤ k → k < i → family ps k ≢ []
 
--- The bytes read as a package, whose basis polynomial number i is the first that is zero. What its sums are is anything.
+-- The bytes read as a package, whose basis polynomial number i is the first that is zero. Its sums may be any that read.
 pub record ZeroBasis (bytes : List ℕ) (i : ℕ) : Type 0 where
   pub content : Package
   pub reads : readPackage bytes ≡ read content

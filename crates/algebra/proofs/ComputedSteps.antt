@@ -1,6 +1,6 @@
 -- The step that is computed is a step of the theory (source document 002, definition 3.4.1): the line that it takes away is the word's coefficient ×
 -- left × (the polynomial divided by its leading coefficient) × right, so that the word goes. Where the polynomial leads with 1, nothing is divided.
-use mathlib.Core.Path.{_≡_, sym, _∙_}
+use mathlib.Core.Path.{_≡_, refl, sym, _∙_, ap}
 use mathlib.Core.Logic.{_≢_, _⊎_, inl, inr}
 use mathlib.Core.List.{List, []}
 use Prim.Native.Nat.{ℕ, _<_}
@@ -11,10 +11,10 @@ use Rattle.words.specs.Order.{Order, Admissible}
 use Rattle.algebra.specs.Poly.{Term, Poly, coeff, scale, shift}
 use Rattle.algebra.specs.Written.{Written}
 use Rattle.algebra.specs.Ideal.{family, Line, product}
-use Rattle.algebra.specs.Groebner.{lead, leadCoef, Led, Inside, monic}
-use Rattle.algebra.specs.Rewriting.{taken, Step, Steps, stay, next}
+use Rattle.algebra.specs.Groebner.{leadCoef, Led, Inside, monic}
+use Rattle.algebra.specs.Rewriting.{taken, Step, StepAt, Steps, stay, next}
 use Rattle.algebra.specs.Spot.{spot, found, reducible, target}
-use Rattle.algebra.specs.Steps.{lineAt, stepped, Sequence, ended, step}
+use Rattle.algebra.specs.Steps.{takeAway, lineAt, stepped, Sequence, ended, step}
 use Rattle.algebra.proofs.Coefficients.{coeff-scale, coeff-sub}
 use Rattle.algebra.proofs.Lines.{shift-scale}
 use Rattle.algebra.proofs.Running.{takeAway-coeff, takeAway-written}
@@ -55,30 +55,39 @@ module _ {K : Operations} (F : Field K) {O : Order} (A : Admissible O) (ps : Lis
       ∙ sym (coeff-scale F (coeff K f (t .word)) (shift (leftOf ps (t .word) i n) (rightOf ps (t .word) i n) (scale K x g)) w
       ∙ rw (c, shift-scale K, coeff-scale F))
 
-  -- the step that is computed is a step
-  pub step-of-target : {f : Poly} → Written K O f → (t : Term) (i n : ℕ) → target ps f ≡ reducible t i n → Step K O (family ps) f (stepped K O ps f t i n)
+  -- the step that is computed is a step, at that term and place and with that polynomial
+  pub step-of-target : {f : Poly} → Written K O f → (t : Term) (i n : ℕ) → target ps f ≡ reducible t i n → StepAt K O (family ps) f (stepped K O ps f t i n) t i n
   unfolding stepped
   step-of-target {f} c t i n e =
       let ((coef, some), at) = target-reducible ps (λ s. (coeff K f (s .word) ≡ s .coef) × (s .coef ≢ 0)) f t i n (written-coeffs F A c) e in
-      record {
+      let made : Step K O (family ps) f (takeAway K O (family ps) f (lineAt K ps t i n)) = record {
         word = t .word;
         has = λ z. some (sym coef ∙ z);
         place = inside (t .word) i n at;
         written = takeAway-written F A (family ps) f (lineAt K ps t i n) c;
         equal = λ w. takeAway-coeff F A (family ps) f (lineAt K ps t i n) w ∙ coeff-sub F f _ w ∙ rw (line-taken f t i n at coef w) (sym (coeff-sub F f _ w));
-      }
+      } in
+      record { step = made; word = refl; left = refl; of = refl }
 
   -- and a sequence of steps that is computed is one of the theory
   pub sequence-steps : {f N : Poly} {xs : List Line} → Written K O f → Sequence K O ps f xs N → Steps K O (family ps) f N
   unfolding stepped
   sequence-steps c (ended e) = stay
-  sequence-steps {f} c (step {t = t} {i} {n} e s) = next (step-of-target c t i n e) (sequence-steps (takeAway-written F A (family ps) f (lineAt K ps t i n) c) s)
+  sequence-steps {f} c (step {t = t} {i} {n} e s) = next (step-of-target c t i n e .step) (sequence-steps (takeAway-written F A (family ps) f (lineAt K ps t i n) c) s)
 
 -- Where the polynomial leads with 1, the line has the word's coefficient, as document 01 says.
 pub line-leads-one : {K : Operations} → Field K → (ps : List Poly) (t : Term) (i n : ℕ) → t .coef < K .size → leadCoef (family ps n) ≡ 1
     → lineAt K ps t i n .coef ≡ t .coef
 unfolding lineAt
 line-leads-one F ps t i n h e = rw e (divided-by-one F (t .coef) ∙ F .red-elem (t .coef) h)
+
+-- So the step is 01's: it takes away the word's coefficient × left × polynomial × right.
+pub stepped-leads-one : {K : Operations} → Field K → (O : Order) (ps : List Poly) (f : Poly) (t : Term) (i n : ℕ) → t .coef < K .size → leadCoef (family ps n) ≡ 1
+    → stepped K O ps f t i n ≡ takeAway K O (family ps) f (record { coef = t .coef; left = leftOf ps (t .word) i n; of = n; right = rightOf ps (t .word) i n })
+unfolding stepped lineAt
+stepped-leads-one {K} F O ps f t i n h e =
+    ap (λ (c : ℕ). takeAway K O (family ps) f (record { coef = c; left = leftOf ps (t .word) i n; of = n; right = rightOf ps (t .word) i n }))
+    (line-leads-one F ps t i n h e)
 
 -- And a polynomial in written form that leads with 1 is not changed where it is divided by its leading coefficient.
 pub monic-leads-one : {K : Operations} (F : Field K) {O : Order} (A : Admissible O) (f : Poly) → Written K O f → leadCoef f ≡ 1 → monic K f ≡ f

@@ -16,4 +16,4 @@ pub mod RuleOfSteps
 pub mod Running
 pub mod OneSequence
 pub mod ComputedSteps
-pub mod DividedBasis
+pub mod DividedRuns

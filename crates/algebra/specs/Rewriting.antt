@@ -1,10 +1,14 @@
 -- Rewriting with free choice (source document 002, definitions 3.4.1 to 3.4.3): a step takes any word of the polynomial, any place of a leading
--- word in it, and any polynomial that leads with that word, and takes away that word's coefficient × left × polynomial × right.
+-- word in it, and any polynomial that leads with that word, and takes away that word's coefficient × left × (polynomial divided by its leading
+-- coefficient) × right.
+use mathlib.Core.Path.{_≡_}
 use mathlib.Core.Logic.{_≢_}
+use Prim.Native.Nat.{ℕ}
+use lib.ListN.{take}
 use Rattle.field.specs.Field.{Operations}
 use Rattle.words.specs.Word.{Word}
 use Rattle.words.specs.Order.{Order}
-use Rattle.algebra.specs.Poly.{Poly, coeff, Same, scale, shift, sub}
+use Rattle.algebra.specs.Poly.{Term, Poly, coeff, Same, scale, shift, sub}
 use Rattle.algebra.specs.Written.{Written}
 use Rattle.algebra.specs.Ideal.{Family}
 use Rattle.algebra.specs.Groebner.{Inside, monic}
@@ -21,6 +25,13 @@ pub record Step (K : Operations) (O : Order) (G : Family) (f h : Poly) : Type 0 
   pub place : Inside K O G word
   pub written : Written K O h
   pub equal : Same K h (sub K f (taken K O G f place))
+
+-- Such a step with nothing left to choose: at the word of the term t, where the leading word of polynomial n stands behind the first i letters.
+pub record StepAt (K : Operations) (O : Order) (G : Family) (f h : Poly) (t : Term) (i n : ℕ) : Type 0 where
+  pub step : Step K O G f h
+  pub word : step .word ≡ t .word
+  pub left : step .place .left ≡ take i (t .word)
+  pub of : step .place .of ≡ n
 
 -- Any number of steps.
 pub data Steps (K : Operations) (O : Order) (G : Family) : Poly → Poly → Type 0 where

@@ -1,4 +1,4 @@
--- Leading words of polynomials that lie in a package: where they stand, and what refusal 8 says of them, polynomial by polynomial.
+-- Polynomials that lie in a package, one by one: whether one is zero, which is refusal 8, and where its leading word stands.
 use mathlib.Core.Path.{_≡_, refl, ap, _∙_}
 use mathlib.Core.List.{List, [], _∷_}
 use Prim.Native.Nat.{ℕ, zero, suc, _+_, _-_, _≤_, _<_}

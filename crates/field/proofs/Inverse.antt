@@ -47,7 +47,7 @@ module _ (p : ℕ) where
       ∙ ap (λ (x : ℕ). f * x % p)
       (sym (next-inverse r (suc r) l ∙ ap (λ (x : ℕ). (p - p / suc r) * x % p) (bound-free r (p % suc r) (p % suc r) (omega arith) (omega arith))))
 
-  pub inverse-lt : (k r : ℕ) → 1 < p → inverseMod p k r < p
+  inverse-lt : (k r : ℕ) → 1 < p → inverseMod p k r < p
   unfolding inverseMod
   inverse-lt zero r h = h
   inverse-lt (suc k) r h = go (decLt 1 r)

@@ -28,7 +28,7 @@ pub fn product(a: u32, b: u32) -> u32
     power(i - 255)
 }
 
-// The inverse of a byte other than 0: the two logarithms add up to 255, and x^255 is 1.
+// The inverse of a byte other than 0: that of 1 is 1, and else the two logarithms add up to 255, since x^255 is 1.
 pub fn inverse(a: u32) -> u32
     requires { ⌜ (0 < a) × (a < 256) ⌝ }
     ensures { λ r. ⌜ (r ≡ gf256 .inv a) × (r < 256) ⌝ }

@@ -10,7 +10,7 @@ use Rattle.algebra.specs.Poly.{Poly}
 use Rattle.algebra.specs.Ideal.{family}
 use Rattle.algebra.specs.Groebner.{Led, monic}
 use Rattle.algebra.specs.Steps.{run}
-use Rattle.algebra.proofs.DividedBasis.{run-monic}
+use Rattle.algebra.proofs.DividedRuns.{run-monic}
 use Rattle.algebra.proofs.WrittenForm.{written-led}
 use Rattle.working.proofs.Families.{family-written}
 use Rattle.package.specs.declared.Head.{Head}

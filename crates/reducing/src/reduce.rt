@@ -106,7 +106,8 @@ fn reduce_formula(
 }
 
 // A formula's bytes under a package's bytes: 1 to 18, or the short form, which the arrays then hold; t is the package's table, its basis divided by the
-// leading coefficients. Steps are those of the basis as it stands.
+// leading coefficients: steps are those of the basis as it stands, and no line of theirs is told. (To tell lines, run on the table as `accept` leaves it:
+// `step` then multiplies by the inverse.)
 pub fn reduce(
     package: &[u8],
     text: &[u8],

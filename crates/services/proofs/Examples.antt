@@ -46,9 +46,9 @@ acceptedScaled : (P : Package) × (acceptance packageScaled ≡ read P)
 unfolding acceptance packageScaled decLt
 acceptedScaled = (_, refl)
 
-scaledByteAccepted : (P : Package) × (acceptance packageScaled256 ≡ read P)
+acceptedScaled256 : (P : Package) × (acceptance packageScaled256 ≡ read P)
 unfolding acceptance packageScaled256 byteSum timesX byteTimes bytePower
-scaledByteAccepted = (_, refl)
+acceptedScaled256 = (_, refl)
 
 -- No relations and no basis: each formula is its own short form.
 acceptedAsNone : AcceptedAs packageNone (acceptedNone .0)
@@ -117,13 +117,13 @@ byte-rows-hold =
 
 -- The rows with leading coefficients other than 1.
 pub scaled-rows-hold : All Claim scaledRows
-unfolding Claim scaledRows acceptedScaled scaledByteAccepted decLt byteSum timesX byteTimes bytePower packageReduced writeFormula writeNumber writeWord overlaps leads basis
+unfolding Claim scaledRows acceptedScaled acceptedScaled256 decLt byteSum timesX byteTimes bytePower packageReduced writeFormula writeNumber writeWord overlaps leads basis
 scaled-rows-hold =
     accepts (acceptedScaled .1) refl
     also shortens (acceptedScaled .1) refl refl
     also shortens (acceptedScaled .1) refl refl
     also shortens (acceptedScaled .1) refl refl
     also is-member (acceptedScaled .1) refl
-    also accepts (scaledByteAccepted .1) refl
-    also shortens (scaledByteAccepted .1) refl refl
+    also accepts (acceptedScaled256 .1) refl
+    also shortens (acceptedScaled256 .1) refl refl
     also done

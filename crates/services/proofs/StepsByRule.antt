@@ -9,7 +9,7 @@ use Rattle.words.proofs.WordOrder.{word-order-admissible}
 use Rattle.algebra.specs.Poly.{Term, Poly}
 use Rattle.algebra.specs.Written.{Written}
 use Rattle.algebra.specs.Ideal.{family, Line}
-use Rattle.algebra.specs.Rewriting.{Step}
+use Rattle.algebra.specs.Rewriting.{StepAt}
 use Rattle.algebra.specs.StepRule.{StepRule, NoStep}
 use Rattle.algebra.specs.Steps.{lineAt, stepped, Sequence, ended, step}
 use Rattle.algebra.proofs.ComputedSteps.{step-of-target}
@@ -35,7 +35,7 @@ module _ (P : Package) (r : Readable P) where
 
   -- The step that the rule names is a step of the theory.
   pub step-taken : {f : Poly} → Written (fieldOf (P .head .p)) wordOrder f → {t : Term} {i n : ℕ} → StepRule wordOrder (basis P) f t i n
-      → Step (fieldOf (P .head .p)) wordOrder (family (basis P)) f (stepped (fieldOf (P .head .p)) wordOrder (basis P) f t i n)
+      → StepAt (fieldOf (P .head .p)) wordOrder (family (basis P)) f (stepped (fieldOf (P .head .p)) wordOrder (basis P) f t i n) t i n
   step-taken c {t} {i} {n} q =
       step-of-target (readable-field P r) word-order-admissible (basis P) (basis-leading P r) c t i n (target-iff (basis P) word-order-admissible c t i n .1 q)
 

@@ -15,7 +15,7 @@ use Rattle.words.specs.Order.{wordOrder}
 use Rattle.algebra.specs.Poly.{Term, Poly, InLetters, sub}
 use Rattle.algebra.specs.Ideal.{family, InIdeal}
 use Rattle.algebra.specs.Written.{Written}
-use Rattle.algebra.specs.Rewriting.{Step}
+use Rattle.algebra.specs.Rewriting.{StepAt}
 use Rattle.algebra.specs.Short.{Short}
 use Rattle.algebra.specs.StepRule.{StepRule, NoStep}
 use Rattle.algebra.specs.Steps.{stepped}
@@ -96,7 +96,7 @@ pub record Demand1 : Type 0 where
 
 -- ==== Demand 2: what is answered is what document 01 says
 
--- 01's facts of acceptance hold of the bytes: they are the text of a package, at most 65,536 of them, that reads, and of which hold the facts about its
+-- The facts of acceptance of document 01, with document 02's P4, hold of the bytes: they are the text of a package, at most 65,536 of them, that reads, and of which hold the facts about its
 -- basis, its overlaps and its sums (acceptance/specs/Facts.antt).
 pub record FactsHold (bytes : List ℕ) : Type 0 where
   pub content : Package
@@ -177,6 +177,7 @@ pub record DecidesBySteps (P : Package) (f : Poly) (a : Membership) : Type 0 whe
 
 -- Demand 2. A package is accepted exactly when document 01's facts hold of it; every service refuses exactly when 01 says so, with the number and place
 -- given there; and the overlap list, each rewriting step, the step count, the short form and the yes or no of membership are those of 01's definitions.
+-- What document 02 changes of 01 is said where it does: refusal 3 (P9), and refusal 8, steps and differences (P4).
 --
 -- Numbers and places of the check and of listing are those of their definitions (package/specs/Package.antt for 1 to 7, acceptance/specs/Check.antt for 8
 -- to 15: the first refusal in 01's order), since each contract is equality with Services.antt. The fields below say the rest, in 01's words.
@@ -205,11 +206,11 @@ pub record Demand2 : Type 0 where
       → reduction bytes text budget ≡ refusedBy (checkedAs bytes .number) (checkedAs bytes .place)
   pub formula-next : (bytes text : List ℕ) (budget : ℕ) (P : Package) (line : ℕ) → AcceptedAs bytes P
       → readFormula (P .head .p) (P .head .letters) formulaLimits text ≡ wrongAt line → reduction bytes text budget ≡ refusedBy 16 line
-  -- the step that the rule names is one of source document 002 (definition 3.4.1): what it takes away is the word's coefficient × left × (polynomial
-  -- divided by its leading coefficient) × right, whatever the polynomial leads with
+  -- the step that the rule names is one of source document 002 (definition 3.4.1), at this word and place and with this polynomial: what it takes away is
+  -- the word's coefficient × left × (polynomial divided by its leading coefficient) × right, whatever the polynomial leads with
   pub step : (bytes : List ℕ) (P : Package) → AcceptedAs bytes P → {f : Poly} → Written (fieldOf (P .head .p)) wordOrder f
       → {t : Term} {i n : ℕ} → StepRule wordOrder (basis P) f t i n
-      → Step (fieldOf (P .head .p)) wordOrder (family (basis P)) f (stepped (fieldOf (P .head .p)) wordOrder (basis P) f t i n)
+      → StepAt (fieldOf (P .head .p)) wordOrder (family (basis P)) f (stepped (fieldOf (P .head .p)) wordOrder (basis P) f t i n) t i n
   pub steps : (bytes text : List ℕ) (budget : ℕ) (P : Package) (f : Poly) → AcceptedAs bytes P → ReadAs P text f
       → (r : Reduction) → (reduction bytes text budget ≡ r) ↔ StepsEnd P f budget r
   -- its refusals are those of both services; the short form service adds 19 with the bytes required
@@ -288,6 +289,6 @@ pub record Demand3 : Type 0 where
 -- Demand 2 gets what each new answer is by its definition: a completed package is accepted (P1); the list goes on with inclusions (P2); words are counted
 -- and listed (P7); a trail gives its formula back (P8); every single change that makes a member is listed, once, and nothing else (P14).
 --
--- Demand 3 keeps its fields under untrimmed bases (P2), any leading coefficient (P4) and weights (P10), where `fieldOf`, `wordOrder` and
+-- Demand 3 keeps its fields under untrimmed bases (P2) and weights (P10), as it did under any leading coefficient (P4), where `fieldOf`, `wordOrder` and
 -- `Short` are given by the package. It gains that a formula and its short form act alike on blocks (P5), that the two houses' sums are the same (P11), that
 -- every sequence of steps ends in the service's short form (P12), and that a carried short form is the new one of the original formula (P13).

@@ -239,7 +239,7 @@ packageScaled256 = text (
     )
 
 -- Rows of them: the sums of an overlap equal the difference of the polynomials divided by their leading coefficients, and formulas come to the short
--- forms that they have under E.
+-- forms that they have under the packages that were multiplied.
 unfoldable pub scaledRows : List Row
 scaledRows =
     acceptedRow packageScaled 2

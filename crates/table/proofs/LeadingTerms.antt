@@ -10,7 +10,7 @@ use Rattle.algebra.specs.Poly.{Term, Poly}
 use Rattle.algebra.specs.Ideal.{family}
 use Rattle.algebra.specs.Groebner.{lead, leadCoef}
 use Rattle.working.specs.Working.{terms}
-use Rattle.table.specs.Table.{gensIn, basisCountIn, itemsIn, termsIn, firstIn, coefIn, sizeIn, blocksIn}
+use Rattle.table.specs.Table.{gensIn, basisCountIn, itemsIn, termsIn, firstIn, sizeIn, blocksIn}
 use Rattle.table.specs.Polynomials.{wordIn, termIn, polynomialIn, basisIn}
 use Rattle.table.specs.Tabled.{Tabled}
 use Rattle.table.proofs.WordSizes.{word-size}
@@ -44,7 +44,6 @@ pub record LeadTerm (t : List ℕ) (g : ℕ) : Type 0 where
   pub inside : firstIn t (gensIn t + g) < termsIn t
   pub word : wordIn t (firstIn t (gensIn t + g)) ≡ lead (family (basisIn t) g)
   pub letters : length (lead (family (basisIn t) g)) ≡ sizeIn t (firstIn t (gensIn t + g)) % 256
-  pub coef : leadCoef (family (basisIn t) g) ≡ coefIn t (firstIn t (gensIn t + g))
 
 pub lead-term : (t : List ℕ) → Tabled t → (g : ℕ) → family (basisIn t) g ≢ [] → LeadTerm t g
 lead-term t T zero h = absurd (let q = number-in t zero h .0 in omega arith)
@@ -65,5 +64,4 @@ lead-term t T (suc k) h =
       inside = omega arith;
       word = sym (ap lead e ∙ f .1);
       letters = ap (λ (q : Poly). length (lead q)) e ∙ ap length (f .1) ∙ word-size t (sizeIn t i) (blocksIn t i);
-      coef = ap leadCoef e ∙ f .2;
     }

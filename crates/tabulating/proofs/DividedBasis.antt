@@ -6,7 +6,7 @@ use native.Mathlib.Decide.{decLt}
 use native.Mathlib.Omega.{arith}
 use Rattle.algebra.specs.Groebner.{monic}
 use Rattle.table.specs.Table.{primeIn, lettersIn, gensIn, basisCountIn, fieldIn}
-use Rattle.table.specs.Polynomials.{polynomialIn, polynomialsIn, basisIn}
+use Rattle.table.specs.Polynomials.{polynomialIn, polynomialsIn, relationsIn, basisIn}
 use Rattle.table.specs.Tabled.{Tabled}
 use Rattle.tabulating.specs.Divided.{ItemDivided}
 use Rattle.tabulating.proofs.ItemLists.{polynomials-map}
@@ -18,6 +18,7 @@ pub record DividedBelow (t : List ℕ) (n : ℕ) (u : List ℕ) : Type 0 where
   pub letters : lettersIn u ≡ lettersIn t
   pub gens : gensIn u ≡ gensIn t
   pub count : basisCountIn u ≡ basisCountIn t
+  pub relations : relationsIn u ≡ relationsIn t
   pub divided : (k : ℕ) → k < n → k < basisCountIn t → polynomialIn u (gensIn t + suc k) ≡ monic (fieldIn t) (polynomialIn t (gensIn t + suc k))
   pub left : (k : ℕ) → n ≤ k → k < basisCountIn t → polynomialIn u (gensIn t + suc k) ≡ polynomialIn t (gensIn t + suc k)
 
@@ -28,6 +29,7 @@ divided-none t T = record {
   letters = refl;
   gens = refl;
   count = refl;
+  relations = refl;
   divided = λ k a b. absurd (omega arith);
   left = λ k a b. refl;
 }
@@ -40,6 +42,7 @@ divided-more t u v n h D I = record {
   letters = I .letters ∙ D .letters;
   gens = I .gens ∙ D .gens;
   count = I .count ∙ D .count;
+  relations = I .relations ∙ D .relations;
   divided = λ k a b. go k a b (decLt k n);
   left = λ k a b. other k b (λ e. omega arith) ∙ D .left k (omega arith) b;
 }

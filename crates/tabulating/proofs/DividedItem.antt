@@ -25,12 +25,12 @@ use Rattle.algebra.proofs.WrittenForm.{written-multiple, scale-one}
 use Rattle.working.specs.Working.{terms}
 use Rattle.working.proofs.Terms.{terms-same}
 use Rattle.table.specs.Table.{primeIn, gensIn, basisCountIn, termsIn, itemsIn, fieldIn, orderIn, inverseIn, firstIn, coefIn, sizeIn, blocksIn}
-use Rattle.table.specs.Polynomials.{wordIn, termIn, polynomialIn, relationsIn, basisIn}
+use Rattle.table.specs.Polynomials.{wordIn, termIn, polynomialIn, polynomialsIn, relationsIn, basisIn}
 use Rattle.table.specs.Tabled.{Tabled}
 use Rattle.table.proofs.Families.{polynomials-count, family-relations, family-basis}
 use Rattle.table.proofs.Inverses.{inverse-some, inverse-lead}
 use Rattle.tabulating.specs.Divided.{RowsScaled, ItemDivided}
-use Rattle.tabulating.proofs.ItemLists.{polynomials-all, terms-scaled, scaled-some}
+use Rattle.tabulating.proofs.ItemLists.{polynomials-all, polynomials-same, terms-scaled, scaled-some}
 use Rattle.tabulating.proofs.KeptKeys.{keys-kept}
 use Rattle.tabulating.proofs.KeptWords.{word-kept, held-kept, suits-kept}
 
@@ -174,7 +174,7 @@ module _ (t u : List ℕ) (T : Tabled t) (g : ℕ) (h : g < basisCountIn t) wher
     inverse-is : inverseIn t g ≡ fieldIn t .inv (leadCoef (polynomialIn t item))
     inverse-is = T .inverses g h ∙ ap (λ (f : Poly). fieldIn t .inv (leadCoef f)) (family-basis t g h)
 
-    pub own-divided : polynomialIn v item ≡ monic (fieldIn t) (polynomialIn t item)
+    own-divided : polynomialIn v item ≡ monic (fieldIn t) (polynomialIn t item)
     unfolding monic
     own-divided = polynomial-own ∙ ap (λ (x : ℕ). scale (fieldIn t) x (polynomialIn t item)) inverse-is
 
@@ -273,6 +273,12 @@ module _ (t u : List ℕ) (T : Tabled t) (g : ℕ) (h : g < basisCountIn t) wher
       inverses = λ k l. let q : k < basisCountIn t = rw count-kept at l in inverses-are k q ∙ rw (prime-kept, lead-at k q);
     }
 
+    relations-kept : relationsIn v ≡ relationsIn t
+    relations-kept =
+        ap (polynomialsIn v 1) gens-kept
+        ∙ polynomials-same t v 1 (gensIn t)
+        (λ k l. let e : 1 + k ≡ suc k = omega arith in rw e (polynomial-other (suc k) (omega arith) (omega arith) (λ q. omega arith)))
+
     pub item-divided : ItemDivided t g v
     item-divided = record {
       tabled = tabled-still;
@@ -280,6 +286,7 @@ module _ (t u : List ℕ) (T : Tabled t) (g : ℕ) (h : g < basisCountIn t) wher
       letters = kept 1 (omega arith);
       gens = gens-kept;
       count = count-kept;
+      relations = relations-kept;
       divided = own-divided;
       others = λ k l n. polynomial-other (gensIn t + suc k) (omega arith) (omega arith) (λ e. n (omega arith));
     }
@@ -298,6 +305,7 @@ item-kept t T g h e =
       letters = refl;
       gens = refl;
       count = refl;
+      relations = refl;
       divided = sym (ap (λ (x : ℕ). scale (fieldIn t) x f) one ∙ scale-one (T .field) (T .suits .admissible) written);
       others = λ k l n. refl;
     }

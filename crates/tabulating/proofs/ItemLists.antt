@@ -27,6 +27,15 @@ unfolding terms scale
 terms-scaled F G y K i zero h = refl
 terms-scaled F G y K i (suc n) h = ap₂ _∷_ (h i (omega arith) (omega arith)) (terms-scaled F G y K (suc i) n (λ j a b. h j (omega arith) (omega arith)))
 
+-- each is as it was
+pub polynomials-same : (t u : List ℕ) (j n : ℕ) → ((k : ℕ) → k < n → polynomialIn u (j + k) ≡ polynomialIn t (j + k)) → polynomialsIn u j n ≡ polynomialsIn t j n
+unfolding polynomialsIn
+polynomials-same t u j zero h = refl
+polynomials-same t u j (suc n) h =
+    let e : j + 0 ≡ j = omega arith in
+    ap₂ _∷_ (rw e at (h 0 (omega arith)))
+    (polynomials-same t u (suc j) n (λ k l. let q : j + suc k ≡ suc j + k = omega arith in rw q at (h (suc k) (omega arith))))
+
 -- each becomes another
 pub polynomials-map : (F : Poly → Poly) (t u : List ℕ) (j n : ℕ) → ((k : ℕ) → k < n → polynomialIn u (j + k) ≡ F (polynomialIn t (j + k)))
     → polynomialsIn u j n ≡ map F (polynomialsIn t j n)

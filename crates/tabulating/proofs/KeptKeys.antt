@@ -12,7 +12,7 @@ module _ (t u : List ℕ) (kept : (k : ℕ) → k < 80 → getD u k 0 ≡ getD t
   key-kept = fun-ext (λ a. kept (16 + a % 32) (omega arith))
 
   -- what stands at a code
-  entry-kept : (c : ℕ) → c < 32 → getD u (48 + c) 0 ≡ getD t (48 + c) 0
+  pub entry-kept : (c : ℕ) → c < 32 → getD u (48 + c) 0 ≡ getD t (48 + c) 0
   entry-kept c h = kept (48 + c) (omega arith)
 
   keyed-kept : (a : ℕ) → Keyed t a → Keyed u a

@@ -2,7 +2,6 @@
 use mathlib.Core.Path.{_≡_, refl, sym, _∙_, ap, ap₂}
 use mathlib.Core.List.{List, [], _∷_, map}
 use Prim.Native.Nat.{ℕ, suc, _+_, _/_, _%_, _<_}
-use native.Mathlib.Omega.{arith}
 use lib.ListN.{getD}
 use Rattle.words.specs.Word.{Word}
 use Rattle.words.specs.Weighted.{weight}
@@ -10,19 +9,17 @@ use Rattle.packedwords.specs.Packed.{Codes, unpacked}
 use Rattle.packedwords.proofs.Packing.{unpacked-codes}
 use Rattle.table.specs.Table.{letterIn, weightIn}
 use Rattle.table.specs.Words.{wordOf, Held, Suits}
+use Rattle.tabulating.proofs.KeptKeys.{entry-kept}
 
 module _ (t u : List ℕ) (kept : (k : ℕ) → k < 80 → getD u k 0 ≡ getD t k 0) where
-  entry : (c : ℕ) → c < 32 → getD u (48 + c) 0 ≡ getD t (48 + c) 0
-  entry c h = kept (48 + c) (omega arith)
-
   letters-kept : (cs : Word) → Codes cs → map (letterIn u) cs ≡ map (letterIn t) cs
   letters-kept [] h = refl
-  letters-kept (c ∷ cs) h = ap₂ _∷_ (ap (λ (x : ℕ). x % 256) (entry c (h 0))) (letters-kept cs (λ i. h (suc i)))
+  letters-kept (c ∷ cs) h = ap₂ _∷_ (ap (λ (x : ℕ). x % 256) (entry-kept t u kept c (h 0))) (letters-kept cs (λ i. h (suc i)))
 
   weights-kept : (cs : Word) → Codes cs → weight (weightIn u) cs ≡ weight (weightIn t) cs
   unfolding weight
   weights-kept [] h = refl
-  weights-kept (c ∷ cs) h = ap₂ _+_ (ap (λ (x : ℕ). x / 256) (entry c (h 0))) (weights-kept cs (λ i. h (suc i)))
+  weights-kept (c ∷ cs) h = ap₂ _+_ (ap (λ (x : ℕ). x / 256) (entry-kept t u kept c (h 0))) (weights-kept cs (λ i. h (suc i)))
 
   pub word-kept : (z : ℕ) (bs : List ℕ) → wordOf u z bs ≡ wordOf t z bs
   word-kept z bs = letters-kept (unpacked (z % 256) bs) (unpacked-codes (z % 256) bs)

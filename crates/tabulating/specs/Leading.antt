@@ -8,12 +8,12 @@ use Rattle.field.specs.Field.{fieldOf}
 abbrev pub leadAt : List ℕ → List ℕ → ℕ → ℕ → ℕ
 leadAt coefs firsts base g = getD coefs (getD firsts (base + g) 0) 0
 
--- Each of the n polynomials has a first term, whose coefficient is an element other than 0.
+-- The inverse of that coefficient.
+abbrev pub inverseEntry : ℕ → List ℕ → List ℕ → ℕ → ℕ → ℕ
+inverseEntry p coefs firsts base g = fieldOf p .inv (leadAt coefs firsts base g)
+
+-- For each of the n polynomials that coefficient lies in the slice, and is an element other than 0.
 pub record Leading (p : ℕ) (coefs firsts : List ℕ) (base n : ℕ) : Type 0 where
   pub inside : (g : ℕ) → g < n → getD firsts (base + g) 0 < length coefs
   pub some : (g : ℕ) → g < n → 0 < leadAt coefs firsts base g
   pub small : (g : ℕ) → g < n → leadAt coefs firsts base g < p
-
--- The inverse of that coefficient.
-abbrev pub inverseEntry : ℕ → List ℕ → List ℕ → ℕ → ℕ → ℕ
-inverseEntry p coefs firsts base g = fieldOf p .inv (leadAt coefs firsts base g)

@@ -14,8 +14,8 @@ ghost use mathlib.Core.Path.{_≡_};
 ghost use mathlib.Core.List.{map};
 ghost use Prim.Native.Nat.{_≤_, _<_};
 ghost use Rattle.algebra.specs.Groebner.{monic};
-ghost use Rattle.table.specs.Table.{primeIn, lettersIn, basisCountIn, fieldIn, termsIn};
-ghost use Rattle.table.specs.Polynomials.{basisIn};
+ghost use Rattle.table.specs.Table.{primeIn, lettersIn, gensIn, basisCountIn, fieldIn, termsIn};
+ghost use Rattle.table.specs.Polynomials.{relationsIn, basisIn};
 ghost use Rattle.table.specs.Tabled.{Tabled};
 ghost use Rattle.tabulating.specs.Divided.{RowsScaled, ItemDivided};
 
@@ -55,6 +55,8 @@ pub fn divide_basis(t: &mut Table)
     requires { ⌜ Tabled (now t) ⌝ }
     ensures { λ _. ⌜ Tabled (now (t .exit)) ⌝ }
     ensures { λ _. ⌜ (primeIn (now (t .exit)) ≡ primeIn (now (t .entry))) × (lettersIn (now (t .exit)) ≡ lettersIn (now (t .entry))) ⌝ }
+    ensures { λ _. ⌜ (gensIn (now (t .exit)) ≡ gensIn (now (t .entry))) × (basisCountIn (now (t .exit)) ≡ basisCountIn (now (t .entry))) ⌝ }
+    ensures { λ _. ⌜ relationsIn (now (t .exit)) ≡ relationsIn (now (t .entry)) ⌝ }
     ensures { λ _. ⌜ basisIn (now (t .exit)) ≡ map (monic (fieldIn (now (t .entry)))) (basisIn (now (t .entry))) ⌝ }
 {
     let n = basis_in(t);

@@ -37,7 +37,7 @@ returns-2 c =
     let a = taken-accepted _ _ _ _ (accepted d .accept .ensures .0) (d .before .before .before .r2 .given .1) in
     let q = d .divide-basis .ensures in
     let e = c .reduce-formula .ensures in
-    let same = divided-reduced _ _ (a .tabled) (q .1 .0 .0) (q .1 .0 .1) (q .1 .1) _ _ in
+    let same = divided-reduced _ _ (a .tabled) (q .1 .0 .0) (q .1 .0 .1) (q .1 .1 .1 .1) _ _ in
     (e .0 ∙ same ∙ table-reduced a _ _, e .1)
 
 pub reduce-spec : {M : Type 1} → statement M

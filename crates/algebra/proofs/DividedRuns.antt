@@ -23,13 +23,13 @@ use Rattle.algebra.proofs.Lines.{shift-scale, scale-scale}
 
 module _ (K : Operations) where
   -- the leading word
-  pub lead-monic : (g : Poly) → lead (monic K g) ≡ lead g
+  lead-monic : (g : Poly) → lead (monic K g) ≡ lead g
   unfolding lead monic scale
   lead-monic [] = refl
   lead-monic (t ∷ g) = refl
 
   -- the polynomials by number
-  pub family-monic : (ps : List Poly) (n : ℕ) → family (map (monic K) ps) n ≡ monic K (family ps n)
+  family-monic : (ps : List Poly) (n : ℕ) → family (map (monic K) ps) n ≡ monic K (family ps n)
   unfolding family monic scale
   family-monic ps zero = refl
   family-monic [] (suc n) = refl
