@@ -17,7 +17,7 @@ use Rattle.acceptance.specs.Acceptance.{acceptance}
 use Rattle.acceptance.specs.Reduction.{packageReduced}
 use Rattle.services.specs.Services.{listable, checkedAs}
 use Rattle.services.specs.Demands.{AcceptedAs}
-use Rattle.services.specs.Examples.{Keeps, Empties, Claim, examples, packageNone, packageOne, edges, package256, byteRows, packageScaled, packageScaled256, scaledRows}
+use Rattle.services.specs.Examples.{Keeps, Empties, Claim, examples, packageNone, packageOne, edges, package256, byteRows, packageScaled, scaledRows}
 use Rattle.services.proofs.TrivialBases.{none-keeps, one-empties}
 use Rattle.services.proofs.Rows.{shortens, is-member, refuses, lacks-room, is-above, lists, accepts}
 
@@ -45,10 +45,6 @@ accepted256 = (_, refl)
 acceptedScaled : (P : Package) × (acceptance packageScaled ≡ read P)
 unfolding acceptance packageScaled decLt
 acceptedScaled = (_, refl)
-
-acceptedScaled256 : (P : Package) × (acceptance packageScaled256 ≡ read P)
-unfolding acceptance packageScaled256 byteSum timesX byteTimes bytePower
-acceptedScaled256 = (_, refl)
 
 -- No relations and no basis: each formula is its own short form.
 acceptedAsNone : AcceptedAs packageNone (acceptedNone .0)
@@ -117,13 +113,11 @@ byte-rows-hold =
 
 -- The rows with leading coefficients other than 1.
 pub scaled-rows-hold : All Claim scaledRows
-unfolding Claim scaledRows acceptedScaled acceptedScaled256 decLt byteSum timesX byteTimes bytePower packageReduced writeFormula writeNumber writeWord overlaps leads basis
+unfolding Claim scaledRows acceptedScaled decLt packageReduced writeFormula writeNumber writeWord overlaps leads basis
 scaled-rows-hold =
     accepts (acceptedScaled .1) refl
     also shortens (acceptedScaled .1) refl refl
     also shortens (acceptedScaled .1) refl refl
     also shortens (acceptedScaled .1) refl refl
     also is-member (acceptedScaled .1) refl
-    also accepts (acceptedScaled256 .1) refl
-    also shortens (acceptedScaled256 .1) refl refl
     also done

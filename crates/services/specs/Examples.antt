@@ -214,32 +214,8 @@ packageScaled = text (
     ∷ []
     )
 
--- The package over GF(256) with its first basis polynomial times 2 and its second times 4: 2 × 2 is 4, and the inverses of 2 and 4 are 142 and 71.
-unfoldable pub packageScaled256 : List ℕ
-unfolding text
-packageScaled256 = text (
-    ascii "p letters gens basis"
-    ∷ ascii "256 2 1 2"
-    ∷ ascii "kind item coef word"
-    ∷ ascii "G 1 1 aa"
-    ∷ ascii "G 1 2 b"
-    ∷ ascii "B 1 2 aa"
-    ∷ ascii "B 1 4 b"
-    ∷ ascii "B 2 4 ab"
-    ∷ ascii "B 2 4 ba"
-    ∷ ascii "kind item coef left of right"
-    ∷ ascii "B 1 2 - 1 -"
-    ∷ ascii "B 2 2 - 1 a"
-    ∷ ascii "B 2 2 a 1 -"
-    ∷ ascii "G 1 142 - 1 -"
-    ∷ ascii "O 1 142 - 2 -"
-    ∷ ascii "O 2 71 - 2 a"
-    ∷ ascii "O 2 142 b 1 -"
-    ∷ []
-    )
-
--- Rows of them: the sums of an overlap equal the difference of the polynomials divided by their leading coefficients, and formulas come to the short
--- forms that they have under the packages that were multiplied.
+-- Rows of it: the sums of an overlap equal the difference of the polynomials divided by their leading coefficients, and formulas come to the short
+-- forms that they have under E.
 unfoldable pub scaledRows : List Row
 scaledRows =
     acceptedRow packageScaled 2
@@ -247,6 +223,4 @@ scaledRows =
     ∷ shortRow packageScaled "coef word\n1 aba\n" "coef word\n1 bb\n" 2
     ∷ shortRow packageScaled "coef word\n1 abab\n" "coef word\n1 bbb\n" 2
     ∷ memberRow packageScaled "coef word\n1 aba\n6 bb\n" 2
-    ∷ acceptedRow packageScaled256 2
-    ∷ shortRow packageScaled256 "coef word\n128 aa\n" "coef word\n29 b\n" 1
     ∷ []
