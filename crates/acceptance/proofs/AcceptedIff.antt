@@ -17,10 +17,10 @@ use Rattle.overlaps.proofs.Certification.{lead-of}
 use Rattle.package.specs.Names.{sumB, sumG}
 use Rattle.package.specs.Sums.{SumLine}
 use Rattle.acceptance.specs.Content.{sumOf, linesOf}
-use Rattle.acceptance.specs.Check.{Verdict, fine, thenJudge, leadsJudged, apartJudged, sides, kindsJudged, itemsJudged, overlapsJudged, basisJudged, sumsVerdict}
+use Rattle.acceptance.specs.Check.{Verdict, fine, thenJudge, zerosJudged, apartJudged, sides, kindsJudged, itemsJudged, overlapsJudged, basisJudged, sumsVerdict}
 use Rattle.acceptance.specs.Facts.{SumHolds, Facts}
 use Rattle.acceptance.proofs.Verdicts.{then-iff}
-use Rattle.acceptance.proofs.BasisFacts.{leads-to, leads-from, Apart, apart-to, apart-from, leads-length}
+use Rattle.acceptance.proofs.BasisFacts.{zeros-to, zeros-from, Apart, apart-to, apart-from, leads-length}
 use Rattle.acceptance.proofs.SumFacts.{SideHolds, kinds-iff, items-to, items-from, Certifies, nothing, overlaps-to, overlaps-from}
 
 module _ {K : Operations} (F : Field K) {O : Order} (A : Admissible O) where
@@ -34,7 +34,7 @@ module _ {K : Operations} (F : Field K) {O : Order} (A : Admissible O) where
       os = overlaps (leads ps)
 
       v1 : Verdict
-      v1 = thenJudge (leadsJudged ps 1) (apartJudged (leads ps) (leads ps) 1)
+      v1 = thenJudge (zerosJudged ps 1) (apartJudged (leads ps) (leads ps) 1)
 
       v2 : Verdict
       v2 = kindsJudged K O ss (sides rs ps)
@@ -56,13 +56,13 @@ module _ {K : Operations} (F : Field K) {O : Order} (A : Admissible O) where
       to : thenJudge v1 (thenJudge v2 (thenJudge v3 v4)) ≡ fine → Facts K O rs ps ss
       to e =
           let (a, b) = then-iff v1 (thenJudge v2 (thenJudge v3 v4)) .0 e in
-          let (c, d) = then-iff (leadsJudged ps 1) (apartJudged (leads ps) (leads ps) 1) .0 a in
+          let (c, d) = then-iff (zerosJudged ps 1) (apartJudged (leads ps) (leads ps) 1) .0 a in
           let (f, g) = then-iff v2 (thenJudge v3 v4) .0 b in
           let (h, i) = then-iff v3 v4 .0 g in
           let (p, q) = both (kinds-iff F A ss (sides rs ps) targets .0 f) in
           let n = leads-length ps in
           record {
-            nonzero = leads-to ps 1 c;
+            nonzero = zeros-to ps 1 c;
             apart = λ x y z l m ne s. apart-to (leads ps) (leads ps) 1 d x (omega arith) y z (omega arith) (λ q. ne (omega arith)) (rw (lead-of ps (suc y), lead-of ps (suc x)) s);
             basis-sums = p;
             relation-sums = q;
@@ -76,7 +76,7 @@ module _ {K : Operations} (F : Field K) {O : Order} (A : Admissible O) where
           let n = leads-length ps in
           let d = apart-from (leads ps) (leads ps) 1 (λ x l y z m ne s. h .apart x y z (omega arith) (omega arith) (λ q. ne (omega arith)) (rw (← lead-of ps (suc y), ← lead-of ps (suc x)) s)) in
           then-iff v1 (thenJudge v2 (thenJudge v3 v4)) .1 (
-            then-iff (leadsJudged ps 1) (apartJudged (leads ps) (leads ps) 1) .1 (leads-from ps 1 (h .nonzero), d),
+            then-iff (zerosJudged ps 1) (apartJudged (leads ps) (leads ps) 1) .1 (zeros-from ps 1 (h .nonzero), d),
             then-iff v2 (thenJudge v3 v4) .1 (
               kinds-iff F A ss (sides rs ps) targets .1 (h .basis-sums also (h .relation-sums also done)),
               then-iff v3 v4 .1 (

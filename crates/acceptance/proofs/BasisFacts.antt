@@ -17,21 +17,21 @@ use Rattle.words.specs.Place.{Stands, leftmost}
 use Rattle.words.proofs.Standing.{leftmost-at, leftmost-nowhere}
 use Rattle.algebra.specs.Poly.{Poly}
 use Rattle.overlaps.specs.Overlaps.{leads}
-use Rattle.acceptance.specs.Check.{fine, leadsJudged, holdsOther, apartJudged, basisJudged}
+use Rattle.acceptance.specs.Check.{fine, zerosJudged, holdsOther, apartJudged, basisJudged}
 use Rattle.acceptance.proofs.Verdicts.{refusal-not-fine, then-iff}
 
 -- 8: every polynomial is nonzero
-pub leads-to : (ps : List Poly) (i : ℕ) → leadsJudged ps i ≡ fine → All (λ f. f ≢ []) ps
-unfolding leadsJudged
-leads-to [] i e = done
-leads-to ([] ∷ ps) i e = absurd (refusal-not-fine e)
-leads-to ((t ∷ f) ∷ ps) i e = cons≢nil also leads-to ps (suc i) e
+pub zeros-to : (ps : List Poly) (i : ℕ) → zerosJudged ps i ≡ fine → All (λ f. f ≢ []) ps
+unfolding zerosJudged
+zeros-to [] i e = done
+zeros-to ([] ∷ ps) i e = absurd (refusal-not-fine e)
+zeros-to ((t ∷ f) ∷ ps) i e = cons≢nil also zeros-to ps (suc i) e
 
-pub leads-from : (ps : List Poly) (i : ℕ) → All (λ f. f ≢ []) ps → leadsJudged ps i ≡ fine
-unfolding leadsJudged
-leads-from [] i done = refl
-leads-from ([] ∷ ps) i (h also hs) = absurd (h refl)
-leads-from ((t ∷ f) ∷ ps) i (h also hs) = leads-from ps (suc i) hs
+pub zeros-from : (ps : List Poly) (i : ℕ) → All (λ f. f ≢ []) ps → zerosJudged ps i ≡ fine
+unfolding zerosJudged
+zeros-from [] i done = refl
+zeros-from ([] ∷ ps) i (h also hs) = absurd (h refl)
+zeros-from ((t ∷ f) ∷ ps) i (h also hs) = zeros-from ps (suc i) hs
 
 -- 9: no other word of the list, numbered from j on, stands inside u
 unfoldable pub Apart : Word → ℕ → List Word → ℕ → Type 0
@@ -104,4 +104,4 @@ leads-length (f ∷ ps) = ap suc (leads-length ps)
 -- A basis that is judged fine has no zero polynomial.
 pub fine-nonzero : (ps : List Poly) → basisJudged ps ≡ fine → All (λ f. f ≢ []) ps
 unfolding basisJudged
-fine-nonzero ps e = leads-to ps 1 (then-iff (leadsJudged ps 1) (apartJudged (leads ps) (leads ps) 1) .0 e .0)
+fine-nonzero ps e = zeros-to ps 1 (then-iff (zerosJudged ps 1) (apartJudged (leads ps) (leads ps) 1) .0 e .0)

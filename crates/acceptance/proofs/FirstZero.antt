@@ -8,9 +8,9 @@ use native.Mathlib.Omega.{arith}
 use Rattle.lists.proofs.Every.{all-at}
 use Rattle.algebra.specs.Poly.{Term, Poly}
 use Rattle.algebra.specs.Ideal.{family}
-use Rattle.acceptance.specs.Check.{Verdict, refusal, fine, leadsJudged}
+use Rattle.acceptance.specs.Check.{Verdict, refusal, fine, zerosJudged}
 use Rattle.acceptance.specs.ZeroBasis.{FirstZero}
-use Rattle.acceptance.proofs.BasisFacts.{leads-to}
+use Rattle.acceptance.proofs.BasisFacts.{zeros-to}
 
 -- the first zero of a list, behind one polynomial that is not zero
 behind : (t : Term) (f : Poly) (ps : List Poly) (i : ℕ) → FirstZero ps i → FirstZero ((t ∷ f) ∷ ps) (suc i)
@@ -24,16 +24,16 @@ behind t f ps (suc i) z = record { some = omega arith; most = let k = z .most in
     go (suc (suc k)) a b = z .before (suc k) (omega arith) (omega arith)
 
 -- polynomials numbered from j on: none is zero, or 8 is given with the number of the first that is
-zeros : (ps : List Poly) (j : ℕ) → (leadsJudged ps j ≡ fine) ⊎ ((i : ℕ) × FirstZero ps i × (leadsJudged ps j ≡ refusal 8 (j + i - 1)))
-unfolding leadsJudged family
+zeros : (ps : List Poly) (j : ℕ) → (zerosJudged ps j ≡ fine) ⊎ ((i : ℕ) × FirstZero ps i × (zerosJudged ps j ≡ refusal 8 (j + i - 1)))
+unfolding zerosJudged family
 zeros [] j = inl refl
 zeros ([] ∷ ps) j =
     let e : j ≡ j + 1 - 1 = omega arith in
     inr (1, record { some = omega arith; most = omega arith; zero = refl; before = λ k a b. absurd (omega arith) }, ap (refusal 8) e)
 zeros ((t ∷ f) ∷ ps) j = go (zeros ps (suc j))
   where
-    go : (leadsJudged ps (suc j) ≡ fine) ⊎ ((i : ℕ) × FirstZero ps i × (leadsJudged ps (suc j) ≡ refusal 8 (suc j + i - 1)))
-        → (leadsJudged ps (suc j) ≡ fine) ⊎ ((i : ℕ) × FirstZero ((t ∷ f) ∷ ps) i × (leadsJudged ps (suc j) ≡ refusal 8 (j + i - 1)))
+    go : (zerosJudged ps (suc j) ≡ fine) ⊎ ((i : ℕ) × FirstZero ps i × (zerosJudged ps (suc j) ≡ refusal 8 (suc j + i - 1)))
+        → (zerosJudged ps (suc j) ≡ fine) ⊎ ((i : ℕ) × FirstZero ((t ∷ f) ∷ ps) i × (zerosJudged ps (suc j) ≡ refusal 8 (j + i - 1)))
     go (inl e) = inl e
     go (inr (i, z, e)) =
         let n : suc j + i - 1 ≡ j + suc i - 1 = omega arith in
@@ -50,19 +50,19 @@ first-once {ps} {i} {k} x y = go (decLt i k) (decLt k i)
 
 module _ (ps : List Poly) where
   -- what 8 says
-  pub zero-of-refusal : (v : Verdict) → leadsJudged ps 1 ≡ v → (v ≡ fine) ⊎ ((i : ℕ) × FirstZero ps i × (v ≡ refusal 8 i))
+  pub zero-of-refusal : (v : Verdict) → zerosJudged ps 1 ≡ v → (v ≡ fine) ⊎ ((i : ℕ) × FirstZero ps i × (v ≡ refusal 8 i))
   zero-of-refusal v e = go (zeros ps 1)
     where
-      go : (leadsJudged ps 1 ≡ fine) ⊎ ((i : ℕ) × FirstZero ps i × (leadsJudged ps 1 ≡ refusal 8 (1 + i - 1))) → (v ≡ fine) ⊎ ((i : ℕ) × FirstZero ps i × (v ≡ refusal 8 i))
+      go : (zerosJudged ps 1 ≡ fine) ⊎ ((i : ℕ) × FirstZero ps i × (zerosJudged ps 1 ≡ refusal 8 (1 + i - 1))) → (v ≡ fine) ⊎ ((i : ℕ) × FirstZero ps i × (v ≡ refusal 8 i))
       go (inl q) = inl (sym e ∙ q)
       go (inr (i, z, q)) = let n : 1 + i - 1 ≡ i = omega arith in inr (i, z, sym e ∙ q ∙ ap (refusal 8) n)
 
   -- and where it is given
-  pub refusal-of-zero : (i : ℕ) → FirstZero ps i → leadsJudged ps 1 ≡ refusal 8 i
+  pub refusal-of-zero : (i : ℕ) → FirstZero ps i → zerosJudged ps 1 ≡ refusal 8 i
   unfolding family
   refusal-of-zero zero z = absurd (let k = z .some in omega arith)
-  refusal-of-zero (suc i) z = go (zero-of-refusal (leadsJudged ps 1) refl)
+  refusal-of-zero (suc i) z = go (zero-of-refusal (zerosJudged ps 1) refl)
     where
-      go : (leadsJudged ps 1 ≡ fine) ⊎ ((k : ℕ) × FirstZero ps k × (leadsJudged ps 1 ≡ refusal 8 k)) → leadsJudged ps 1 ≡ refusal 8 (suc i)
-      go (inl q) = absurd (all-at (leads-to ps 1 q) [] i (let k = z .most in omega arith) (z .zero))
+      go : (zerosJudged ps 1 ≡ fine) ⊎ ((k : ℕ) × FirstZero ps k × (zerosJudged ps 1 ≡ refusal 8 k)) → zerosJudged ps 1 ≡ refusal 8 (suc i)
+      go (inl q) = absurd (all-at (zeros-to ps 1 q) [] i (let k = z .most in omega arith) (z .zero))
       go (inr (k, y, q)) = q ∙ ap (refusal 8) (first-once y z)

@@ -33,10 +33,10 @@ thenJudge (refusal n k) v = refusal n k
 thenJudge fine v = v
 
 -- 8 (document 02, P4): the first polynomial, numbered from i on, that is zero.
-unfoldable pub leadsJudged : List Poly → ℕ → Verdict
-leadsJudged [] i = fine
-leadsJudged ([] ∷ ps) i = refusal 8 i
-leadsJudged ((t ∷ f) ∷ ps) i = leadsJudged ps (suc i)
+unfoldable pub zerosJudged : List Poly → ℕ → Verdict
+zerosJudged [] i = fine
+zerosJudged ([] ∷ ps) i = refusal 8 i
+zerosJudged ((t ∷ f) ∷ ps) i = zerosJudged ps (suc i)
 
 -- A word of the list, numbered from j on, that is not number i stands inside u.
 unfoldable pub holdsOther : Word → ℕ → List Word → ℕ → Bool
@@ -132,8 +132,8 @@ overlapsJudged K O G ss (o ∷ os) i =
 
 -- 8 for all items, then 9 for all: what listing judges too.
 unfoldable pub basisJudged : List Poly → Verdict
-unfolding leadsJudged apartJudged leads thenJudge
-basisJudged ps = thenJudge (leadsJudged ps 1) (apartJudged (leads ps) (leads ps) 1)
+unfolding zerosJudged apartJudged leads thenJudge
+basisJudged ps = thenJudge (zerosJudged ps 1) (apartJudged (leads ps) (leads ps) 1)
 
 -- The kinds of sums; then 15; then the overlaps.
 unfoldable pub sumsVerdict : Operations → Order → List Poly → List Poly → List SumLine → Verdict

@@ -5,7 +5,7 @@ use Prim.Native.Nat.{ℕ}
 use Rattle.words.specs.Word.{Word}
 use Rattle.algebra.specs.Poly.{Poly}
 use Rattle.overlaps.specs.Overlaps.{leads}
-use Rattle.acceptance.specs.Check.{Verdict, refusal, fine, thenJudge, leadsJudged, apartJudged, basisJudged}
+use Rattle.acceptance.specs.Check.{Verdict, refusal, fine, thenJudge, zerosJudged, apartJudged, basisJudged}
 use Rattle.basis.specs.declared.BasisAnswer.{BasisAnswer}
 use Rattle.basis.specs.declared.BasisAnswer.the-variants.{Unsound, Sound}
 use Rattle.basis.specs.Told.{told}
@@ -14,12 +14,12 @@ use Rattle.basis.specs.Answer.{basisVerdict, HeadsWhere}
 
 module _ (ps : List Poly) where
   -- 8 where a polynomial is zero
-  pub lead-judged : (k : ℕ) → refusal 8 k ≡ leadsJudged ps 1 → refusal 8 k ≡ basisJudged ps
+  pub zero-judged : (k : ℕ) → refusal 8 k ≡ zerosJudged ps 1 → refusal 8 k ≡ basisJudged ps
   unfolding basisJudged thenJudge
-  lead-judged k e = ap (λ (v : Verdict). thenJudge v (apartJudged (leads ps) (leads ps) 1)) e
+  zero-judged k e = ap (λ (v : Verdict). thenJudge v (apartJudged (leads ps) (leads ps) 1)) e
 
   -- then 9 where a leading word holds another, or nothing
-  pub apart-told : fine ≡ leadsJudged ps 1 → (ws : List Word) → ws ≡ leads ps → (k : ℕ) → told 9 k ≡ apartJudged ws ws 1 → told 9 k ≡ basisJudged ps
+  pub apart-told : fine ≡ zerosJudged ps 1 → (ws : List Word) → ws ≡ leads ps → (k : ℕ) → told 9 k ≡ apartJudged ws ws 1 → told 9 k ≡ basisJudged ps
   unfolding basisJudged thenJudge
   apart-told e ws w k d =
       d

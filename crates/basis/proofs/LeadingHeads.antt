@@ -15,7 +15,7 @@ use Rattle.working.specs.Working.{terms}
 use Rattle.working.specs.Polynomial.{polyTerm}
 use Rattle.working.specs.Family.{between, polyBetween, familyAt}
 use Rattle.working.proofs.Between.{between-length}
-use Rattle.acceptance.specs.Check.{refusal, fine, leadsJudged}
+use Rattle.acceptance.specs.Check.{refusal, fine, zerosJudged}
 use Rattle.basis.specs.Lies.{BasisLies}
 use Rattle.basis.specs.Heads.{HeadsOf}
 
@@ -77,15 +77,15 @@ module _ (coefs starts lens bytes firsts : List ℕ) (base count : ℕ) (L : Bas
     pub length-within : first g < last g → getD lens (first g) 0 ≤ 24
     length-within k = let x = L .runs .most g h in L .terms .short (first g) (omega arith)
 
-    pub leads-zero : last g ≤ first g → refusal 8 (g + 1) ≡ leadsJudged (familyAt coefs starts lens bytes firsts (base + g) (count - g)) (g + 1)
-    unfolding leadsJudged
-    leads-zero k = rw (family-next g h, poly-none coefs starts lens bytes (first g) (last g) k)
+    pub zero-refused : last g ≤ first g → refusal 8 (g + 1) ≡ zerosJudged (familyAt coefs starts lens bytes firsts (base + g) (count - g)) (g + 1)
+    unfolding zerosJudged
+    zero-refused k = rw (family-next g h, poly-none coefs starts lens bytes (first g) (last g) k)
 
-    pub leads-next : first g < last g
-        → leadsJudged (familyAt coefs starts lens bytes firsts (base + (g + 1)) (count - (g + 1))) (g + 1 + 1)
-        ≡ leadsJudged (familyAt coefs starts lens bytes firsts (base + g) (count - g)) (g + 1)
-    unfolding leadsJudged
-    leads-next k = rw (family-next g h, poly-some coefs starts lens bytes (first g) (last g) k within, leadsJudged, add-one (g + 1))
+    pub zeros-next : first g < last g
+        → zerosJudged (familyAt coefs starts lens bytes firsts (base + (g + 1)) (count - (g + 1))) (g + 1 + 1)
+        ≡ zerosJudged (familyAt coefs starts lens bytes firsts (base + g) (count - g)) (g + 1)
+    unfolding zerosJudged
+    zeros-next k = rw (family-next g h, poly-some coefs starts lens bytes (first g) (last g) k within, zerosJudged, add-one (g + 1))
 
     pub filled-next : (heads headlens : List ℕ) → g < length heads → g < length headlens → first g < last g → Filled starts lens firsts base g heads headlens
         → Filled starts lens firsts base (g + 1) (set heads g (getD starts (first g) 0)) (set headlens g (getD lens (first g) 0))
@@ -102,12 +102,12 @@ module _ (coefs starts lens bytes firsts : List ℕ) (base count : ℕ) (L : Bas
   unfolding Filled
   filled-none heads headlens j l = absurd (omega arith)
 
-  pub leads-start : leadsJudged (familyAt coefs starts lens bytes firsts (base + 0) (count - 0)) (0 + 1) ≡ leadsJudged (familyAt coefs starts lens bytes firsts base count) 1
-  leads-start = let e : count - 0 ≡ count = omega arith in rw (add-zero base, e)
+  pub zeros-start : zerosJudged (familyAt coefs starts lens bytes firsts (base + 0) (count - 0)) (0 + 1) ≡ zerosJudged (familyAt coefs starts lens bytes firsts base count) 1
+  zeros-start = let e : count - 0 ≡ count = omega arith in rw (add-zero base, e)
 
-  pub leads-end : (g : ℕ) → count ≤ g → fine ≡ leadsJudged (familyAt coefs starts lens bytes firsts (base + g) (count - g)) (g + 1)
-  unfolding leadsJudged familyAt
-  leads-end g h = let e : count - g ≡ 0 = omega arith in rw e
+  pub zeros-end : (g : ℕ) → count ≤ g → fine ≡ zerosJudged (familyAt coefs starts lens bytes firsts (base + g) (count - g)) (g + 1)
+  unfolding zerosJudged familyAt
+  zeros-end g h = let e : count - g ≡ 0 = omega arith in rw e
 
   module _ (heads headlens : List ℕ) (F : Filled starts lens firsts base count heads headlens) where
     leading-from : (g n : ℕ) → g + n ≡ count → laidFrom heads headlens bytes g n ≡ leads (familyAt coefs starts lens bytes firsts (base + g) n)

@@ -1,7 +1,6 @@
 -- The first term of a multiple cancels a term of the formula: the formula without that term is left, and the other terms of the multiple to add.
 use mathlib.Core.Path.{_≡_, refl, sym, ap, _∙_}
-use mathlib.Core.Logic.{_≢_}
-use mathlib.Core.List.{List, [], _∷_}
+use mathlib.Core.List.{List}
 use Prim.Native.Nat.{ℕ, _+_, _-_, _≤_, _<_}
 use native.Mathlib.Decide.{decLt}
 use native.Mathlib.Omega.{arith}
@@ -10,17 +9,16 @@ use Rattle.field.proofs.Derived.{opposite-cancels}
 use Rattle.words.specs.Word.{Word, around}
 use Rattle.words.specs.Order.{Lt}
 use Rattle.words.proofs.Admissible.{order-refl}
-use Rattle.algebra.specs.Poly.{Term, Poly}
 use Rattle.algebra.specs.Groebner.{lead, leadCoef}
 use Rattle.algebra.specs.Written.{insert, plus}
 use Rattle.algebra.proofs.Insertion.{put-zero}
 use Rattle.working.specs.Working.{terms}
 use Rattle.working.specs.Change.{single, onto, without}
-use Rattle.working.proofs.Terms.{terms-next, terms-end}
 use Rattle.working.proofs.Inserted.{insert-equal}
 use Rattle.table.specs.Polynomials.{wordIn, termIn}
 use Rattle.table.specs.Table.{fieldIn, orderIn, coefIn}
 use Rattle.table.specs.Tabled.{Tabled}
+use Rattle.table.proofs.LeadingTerms.{terms-first}
 use Rattle.packedterms.specs.Behind.{Behind}
 use Rattle.packedterms.specs.Formula.{wordAt, termAt, formula, Working}
 use Rattle.packedterms.proofs.BehindTerms.{behind-first}
@@ -28,34 +26,22 @@ use Rattle.packedterms.proofs.Places.{words-fall}
 use Rattle.itemadding.specs.LeadPlace.{LeadPlace}
 use Rattle.itemadding.proofs.Sums.{rest, rest-next, rest-end, sum-next, plus-end}
 
-lead-first : (s : Term) (f : Poly) → (lead (s ∷ f) ≡ s .word) × (leadCoef (s ∷ f) ≡ s .coef)
-unfolding lead leadCoef
-lead-first s f = (refl, refl)
-
--- Terms that are not zero have a first.
-pub has-term : (F : ℕ → Term) (a b : ℕ) → terms F a (b - a) ≢ [] → a < b
-has-term F a b e = go (decLt a b)
-  where
-    go : Dec (a < b) → a < b
-    go (yes q) = q
-    go (no q) = absurd (e (terms-end F a b (omega arith)))
-
 module _ (t : List ℕ) (tabled : Tabled t) (a b : ℕ) (x : ℕ) (left right : Word) (c l w o : List ℕ) (n k : ℕ) (held : Working t c l w o n) (h : k < n)
     (at : LeadPlace (fieldIn t) x left right (terms (termIn t) a (b - a)) (termAt t c l w o k)) where
   abbrev v : Word
   v = wordAt t l w (getD o k 0)
 
-  some : a < b
-  some = has-term (termIn t) a b (at .some)
+  first : (0 < b - a) × (lead (terms (termIn t) a (b - a)) ≡ wordIn t a) × (leadCoef (terms (termIn t) a (b - a)) ≡ coefIn t a)
+  first = terms-first (termIn t) a (b - a) (at .some)
 
-  first : (lead (terms (termIn t) a (b - a)) ≡ wordIn t a) × (leadCoef (terms (termIn t) a (b - a)) ≡ coefIn t a)
-  first = rw (terms-next (termIn t) a b some) (lead-first (termIn t a) (terms (termIn t) (a + 1) (b - (a + 1))))
+  some : a < b
+  some = let q = first .0 in omega arith
 
   word-is : v ≡ around left right (wordIn t a)
-  word-is = sym (at .word) ∙ ap (around left right) (first .0)
+  word-is = sym (at .word) ∙ ap (around left right) (first .1)
 
   coef-is : fieldIn t .mul x (coefIn t a) ≡ getD c (getD o k 0) 0
-  coef-is = ap (fieldIn t .mul x) (sym (first .1)) ∙ at .coef
+  coef-is = ap (fieldIn t .mul x) (sym (first .2)) ∙ at .coef
 
   falling : (j : ℕ) → j < k → Lt (orderIn t) v (wordAt t l w (getD o j 0))
   falling j z = words-fall t c l w o n held j k z h

@@ -13,7 +13,7 @@ use Rattle.table.specs.Table.{basisCountIn}
 use Rattle.table.specs.Polynomials.{basisIn}
 use Rattle.table.specs.Tabled.{Tabled}
 use Rattle.tablesums.specs.Leading.{HeadsIn}
-use Rattle.lapsums.proofs.BasisLeads.{heads-short}
+use Rattle.lapsums.proofs.ShortHeads.{heads-short}
 
 module _ {t heads headlens bytes : List ℕ} (H : HeadsIn t heads headlens bytes) {count : ℕ} (e : count ≡ basisCountIn t) where
   pub count-laid : Laid heads headlens bytes count

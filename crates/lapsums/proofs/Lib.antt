@@ -1,5 +1,5 @@
 -- What other crates cite: the answer of a verdict.
 pub mod Answers
-mod BasisLeads
+mod ShortHeads
 mod CountedHeads
 mod OverlapsJudging

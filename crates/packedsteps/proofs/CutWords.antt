@@ -15,7 +15,7 @@ use Rattle.table.specs.Polynomials.{basisIn}
 use Rattle.table.specs.Tabled.{Tabled}
 use Rattle.packedsteps.specs.Cuts.{CutAt}
 use Rattle.table.proofs.WordSizes.{word-size, even-size, even-held}
-use Rattle.table.proofs.LeadingTerms.{LeadTerm, lead-term}
+use Rattle.table.proofs.LeadingTerms.{number-in, LeadTerm, lead-term}
 
 -- The numbers of a cut: the leading word's letters and those of the whole, and their sizes.
 pub record Cutting (t : List ℕ) (z i g : ℕ) : Type 0 where
@@ -28,7 +28,8 @@ pub record Cutting (t : List ℕ) (z i g : ℕ) : Type 0 where
 module _ (t : List ℕ) (T : Tabled t) (z : ℕ) (bs : List ℕ) (h : Sixfold t z bs) (i g : ℕ) (e : spot (basisIn t) (wordOf t z bs) ≡ found i g) where
   pub cutting : Cutting t z i g
   cutting =
-      let L = lead-term t T g (spot-found (basisIn t) (wordOf t z bs) i g e .0) in
+      let n = number-in t g (spot-found (basisIn t) (wordOf t z bs) i g e .0) in
+      let L = lead-term t T g (n .0) (n .1) in
       let first = firstIn t (gensIn t + g) in
       let within = spot-within (basisIn t) (wordOf t z bs) i g e in
       let letters = L .letters in

@@ -18,12 +18,12 @@ use Rattle.package.proofs.ReadingNumbers.{Numbered}
 use Rattle.overlaps.specs.Overlaps.{leads}
 use Rattle.overlaps.specs.Listing.{overlapText}
 use Rattle.acceptance.specs.Content.{basis}
-use Rattle.acceptance.specs.Check.{Verdict, refusal, fine, leadsJudged, basisJudged, checked}
+use Rattle.acceptance.specs.Check.{Verdict, refusal, fine, zerosJudged, basisJudged, checked}
 use Rattle.acceptance.specs.Acceptance.{judgedBy, acceptance}
 use Rattle.acceptance.specs.Reduction.{formulaLimits, Reduction, refusedBy, shortForm, reductionOf, formulaReduced, packageReduced, reduction}
 use Rattle.services.specs.Services.{listable, checkAnswer, checkedAs, wordsListed, listAnswer, listedAs, shortAnswer, shortenedAs, memberAnswer, membershipAs}
 use Rattle.services.specs.Demands.{Between}
-use Rattle.services.proofs.VerdictNumbers.{Judged, leads-number, basis-judged, check-judged}
+use Rattle.services.proofs.VerdictNumbers.{Judged, zeros-number, basis-judged, check-judged}
 
 -- A refusal's number that has one property has every weaker one.
 pub outcome-weaker : (Q R : ℕ → Type 0) → ((n : ℕ) → Q n → R n) → (o : Outcome) → Numbered Q o → Numbered R o
@@ -43,7 +43,7 @@ module _ (Q : ℕ → Type 0) where
       go fine y = tt
 
   -- What 8 gives may depend on the package.
-  module _ (bytes : List ℕ) (eight : (P : Package) → readPackage bytes ≡ read P → Judged Q (leadsJudged (basis P) 1)) where
+  module _ (bytes : List ℕ) (eight : (P : Package) → readPackage bytes ≡ read P → Judged Q (zerosJudged (basis P) 1)) where
     pub acceptance-by : ((n : ℕ) → Between 9 15 n → Q n) → Numbered Q (readPackage bytes) → Numbered Q (acceptance bytes)
     unfolding acceptance
     acceptance-by h = judged-number checked (readPackage bytes) (λ P e. check-judged Q P (eight P e) h)
@@ -54,10 +54,10 @@ module _ (Q : ℕ → Type 0) where
 
   pub acceptance-has : ((n : ℕ) → Between 8 15 n → Q n) → (bytes : List ℕ) → Numbered Q (readPackage bytes) → Numbered Q (acceptance bytes)
   acceptance-has h bytes =
-      acceptance-by bytes (λ P e. leads-number Q (h 8 (lit≤ tt, lit≤ tt)) (basis P) 1) (λ n x. h n (let k = x .0 in omega arith, x .1))
+      acceptance-by bytes (λ P e. zeros-number Q (h 8 (lit≤ tt, lit≤ tt)) (basis P) 1) (λ n x. h n (let k = x .0 in omega arith, x .1))
 
   pub listable-has : Q 8 → Q 9 → (bytes : List ℕ) → Numbered Q (readPackage bytes) → Numbered Q (listable bytes)
-  listable-has q r bytes = listable-by bytes (λ P e. leads-number Q q (basis P) 1) r
+  listable-has q r bytes = listable-by bytes (λ P e. zeros-number Q q (basis P) 1) r
 
   -- A reduction that, where it is a refusal, has a number with the property.
   unfoldable pub ReductionNumber : Reduction → Type 0

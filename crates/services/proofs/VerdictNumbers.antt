@@ -18,7 +18,7 @@ use Rattle.package.specs.Names.{sumO}
 use Rattle.package.specs.Sums.{SumLine}
 use Rattle.package.specs.Package.{Package}
 use Rattle.acceptance.specs.Content.{relations, basis, sumOf}
-use Rattle.acceptance.specs.Check.{Verdict, refusal, fine, thenJudge, leadsJudged, holdsOther, apartJudged, Left, fails, over, rest, less, anyLine, isUnder, sumVerdict, sumsJudged, Side, sides, kindsJudged, itemsJudged, overlapsJudged, basisJudged, sumsVerdict, checked}
+use Rattle.acceptance.specs.Check.{Verdict, refusal, fine, thenJudge, zerosJudged, holdsOther, apartJudged, Left, fails, over, rest, less, anyLine, isUnder, sumVerdict, sumsJudged, Side, sides, kindsJudged, itemsJudged, overlapsJudged, basisJudged, sumsVerdict, checked}
 use Rattle.services.specs.Demands.{Between}
 
 module _ (Q : ℕ → Type 0) where
@@ -32,11 +32,11 @@ module _ (Q : ℕ → Type 0) where
   then-number (refusal n k) w x y = x
   then-number fine w x y = y
 
-  pub leads-number : Q 8 → (ps : List Poly) (i : ℕ) → Judged (leadsJudged ps i)
-  unfolding Judged leadsJudged
-  leads-number q [] i = tt
-  leads-number q ([] ∷ ps) i = q
-  leads-number q ((t ∷ f) ∷ ps) i = leads-number q ps (suc i)
+  pub zeros-number : Q 8 → (ps : List Poly) (i : ℕ) → Judged (zerosJudged ps i)
+  unfolding Judged zerosJudged
+  zeros-number q [] i = tt
+  zeros-number q ([] ∷ ps) i = q
+  zeros-number q ((t ∷ f) ∷ ps) i = zeros-number q ps (suc i)
 
   apart-number : Q 9 → (all us : List Word) (i : ℕ) → Judged (apartJudged all us i)
   unfolding Judged apartJudged
@@ -89,12 +89,12 @@ module _ (Q : ℕ → Type 0) where
       then-number (sumVerdict 13 i l) (overlapsJudged K O G ss os (suc i)) (left-number q u r i l) (overlaps-number q r u K O G ss os (suc i))
 
   -- The basis is refused by what 8 gives, or by 9.
-  pub basis-judged : (ps : List Poly) → Judged (leadsJudged ps 1) → Q 9 → Judged (basisJudged ps)
+  pub basis-judged : (ps : List Poly) → Judged (zerosJudged ps 1) → Q 9 → Judged (basisJudged ps)
   unfolding basisJudged
-  basis-judged ps q r = then-number (leadsJudged ps 1) (apartJudged (leads ps) (leads ps) 1) q (apart-number r (leads ps) (leads ps) 1)
+  basis-judged ps q r = then-number (zerosJudged ps 1) (apartJudged (leads ps) (leads ps) 1) q (apart-number r (leads ps) (leads ps) 1)
 
   -- The check refuses a package that reads by what 8 gives, or by one of 9 to 15.
-  pub check-judged : (P : Package) → Judged (leadsJudged (basis P) 1) → ((n : ℕ) → Between 9 15 n → Q n) → Judged (checked P)
+  pub check-judged : (P : Package) → Judged (zerosJudged (basis P) 1) → ((n : ℕ) → Between 9 15 n → Q n) → Judged (checked P)
   unfolding checked sumsVerdict
   check-judged P q h =
       let K = fieldOf (P .head .p) in
@@ -113,4 +113,4 @@ module _ (Q : ℕ → Type 0) where
 -- The check refuses a package that reads by one of 8 to 15.
 pub check-number : (P : Package) → Judged (Between 8 15) (checked P)
 check-number P =
-    check-judged (Between 8 15) P (leads-number (Between 8 15) (lit≤ tt, lit≤ tt) (basis P) 1) (λ n x. (let k = x .0 in omega arith, x .1))
+    check-judged (Between 8 15) P (zeros-number (Between 8 15) (lit≤ tt, lit≤ tt) (basis P) 1) (λ n x. (let k = x .0 in omega arith, x .1))

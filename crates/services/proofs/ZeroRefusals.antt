@@ -11,7 +11,7 @@ use Rattle.overlaps.specs.Overlaps.{leads}
 use Rattle.package.specs.Package.{Package, Outcome, refused, read, readPackage}
 use Rattle.package.proofs.ReadingNumbers.{Numbered, read-known}
 use Rattle.acceptance.specs.Content.{relations, basis}
-use Rattle.acceptance.specs.Check.{Verdict, refusal, fine, thenJudge, leadsJudged, apartJudged, basisJudged, sumsVerdict, checked}
+use Rattle.acceptance.specs.Check.{Verdict, refusal, fine, thenJudge, zerosJudged, apartJudged, basisJudged, sumsVerdict, checked}
 use Rattle.acceptance.specs.Acceptance.{judgedBy, acceptance}
 use Rattle.acceptance.specs.Reduction.{packageReduced, reduction}
 use Rattle.acceptance.specs.ZeroBasis.{FirstZero, ZeroBasis}
@@ -30,9 +30,9 @@ module _ (bytes : List ℕ) where
   unfolding OnlyZero
   other n h e = absurd (h e)
 
-  eight : (P : Package) → readPackage bytes ≡ read P → Judged OnlyZero (leadsJudged (basis P) 1)
+  eight : (P : Package) → readPackage bytes ≡ read P → Judged OnlyZero (zerosJudged (basis P) 1)
   unfolding Judged OnlyZero
-  eight P r = go (leadsJudged (basis P) 1) (zero-of-refusal (basis P) (leadsJudged (basis P) 1) refl)
+  eight P r = go (zerosJudged (basis P) 1) (zero-of-refusal (basis P) (zerosJudged (basis P) 1) refl)
     where
       go : (v : Verdict) → (v ≡ fine) ⊎ ((i : ℕ) × FirstZero (basis P) i × (v ≡ refusal 8 i)) → Judged OnlyZero v
       go fine h = tt

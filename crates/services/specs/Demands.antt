@@ -96,8 +96,8 @@ pub record Demand1 : Type 0 where
 
 -- ==== Demand 2: what is answered is what document 01 says
 
--- The facts of acceptance of document 01, with document 02's P4, hold of the bytes: they are the text of a package, at most 65,536 of them, that reads, and of which hold the facts about its
--- basis, its overlaps and its sums (acceptance/specs/Facts.antt).
+-- The facts of acceptance of document 01, with document 02's P4, hold of the bytes: they are the text of a package, at most 65,536 of them, that reads,
+-- and of which hold the facts about its basis, its overlaps and its sums (acceptance/specs/Facts.antt).
 pub record FactsHold (bytes : List ℕ) : Type 0 where
   pub content : Package
   pub is-text : bytes ≡ writePackage content

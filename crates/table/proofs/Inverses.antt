@@ -3,7 +3,6 @@ use mathlib.Core.Path.{_≡_, _∙_, ap}
 use mathlib.Core.Logic.{_≢_, inl, inr, _⊎_}
 use mathlib.Core.List.{List, []}
 use Prim.Native.Nat.{ℕ, suc, _+_, _<_}
-use Rattle.lists.proofs.Every.{all-at}
 use Rattle.field.proofs.Derived.{inv-ne-zero, divided-times}
 use Rattle.field.proofs.Fields.{below-of, element-of}
 use Rattle.field.proofs.Inverse.{inv-lt}
@@ -15,7 +14,7 @@ use Rattle.working.proofs.Families.{family-written}
 use Rattle.table.specs.Table.{primeIn, gensIn, basisCountIn, fieldIn, orderIn, inverseIn}
 use Rattle.table.specs.Polynomials.{basisIn}
 use Rattle.table.specs.Tabled.{Tabled}
-use Rattle.table.proofs.Families.{polynomials-count}
+use Rattle.table.proofs.LeadingTerms.{basis-some}
 
 module _ (t : List ℕ) (T : Tabled t) where
   pub inverse-small : (g : ℕ) → g < basisCountIn t → inverseIn t g < primeIn t
@@ -29,12 +28,8 @@ module _ (t : List ℕ) (T : Tabled t) where
       go (inl e) = absurd (n e)
       go (inr l) = red-lead (T .field) (T .suits .admissible) l
 
-  pub basis-some : (g : ℕ) → g < basisCountIn t → family (basisIn t) (suc g) ≢ []
-  unfolding family
-  basis-some g h = all-at (T .nonzero) [] g (rw (polynomials-count t (gensIn t + 1) (basisCountIn t)) h)
-
   pub inverse-some : (g : ℕ) → g < basisCountIn t → fieldIn t .red (inverseIn t g) ≢ 0
-  inverse-some g h = rw (T .inverses g h) (inv-ne-zero (T .field) (leadCoef (family (basisIn t) (suc g))) (lead-some (suc g) (basis-some g h)))
+  inverse-some g h = rw (T .inverses g h) (inv-ne-zero (T .field) (leadCoef (family (basisIn t) (suc g))) (lead-some (suc g) (basis-some t T g h)))
 
   -- an element divided by a leading coefficient, times that, is the element
   pub divided-back : (g c : ℕ) → family (basisIn t) g ≢ [] → c < primeIn t
@@ -46,4 +41,4 @@ module _ (t : List ℕ) (T : Tabled t) where
   pub inverse-lead : (g : ℕ) → g < basisCountIn t → fieldIn t .mul (inverseIn t g) (leadCoef (family (basisIn t) (suc g))) ≡ 1
   inverse-lead g h =
       let a = leadCoef (family (basisIn t) (suc g)) in
-      ap (λ (x : ℕ). fieldIn t .mul x a) (T .inverses g h) ∙ T .field .mul-comm (fieldIn t .inv a) a ∙ T .field .mul-inv a (lead-some (suc g) (basis-some g h))
+      ap (λ (x : ℕ). fieldIn t .mul x a) (T .inverses g h) ∙ T .field .mul-comm (fieldIn t .inv a) a ∙ T .field .mul-inv a (lead-some (suc g) (basis-some t T g h))

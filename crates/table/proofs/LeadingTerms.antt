@@ -1,4 +1,4 @@
--- The leading term of a basis polynomial by its number: the first term of its item.
+-- The leading term of a basis polynomial by its number: the first term of its item. No basis polynomial of a table is zero, so each has one.
 use mathlib.Core.Path.{_≡_, refl, sym, _∙_, ap}
 use mathlib.Core.Logic.{_≢_}
 use mathlib.Core.List.{List, []}
@@ -6,6 +6,7 @@ use Prim.Native.Nat.{ℕ, zero, suc, _+_, _-_, _%_, _≤_, _<_}
 use native.Mathlib.Decide.{decLt}
 use native.Mathlib.Omega.{arith}
 use lib.ListN.{length, List·getD-eq-default}
+use Rattle.lists.proofs.Every.{all-at}
 use Rattle.algebra.specs.Poly.{Term, Poly}
 use Rattle.algebra.specs.Ideal.{family}
 use Rattle.algebra.specs.Groebner.{lead, leadCoef}
@@ -29,6 +30,10 @@ number-in t (suc g) h = (omega arith, go (decLt (basisCountIn t) (suc g)))
         let k : length (basisIn t) ≤ g = omega arith in
         absurd (h (List·getD-eq-default (basisIn t) [] k))
 
+pub basis-some : (t : List ℕ) → Tabled t → (g : ℕ) → g < basisCountIn t → family (basisIn t) (suc g) ≢ []
+unfolding family
+basis-some t T g h = all-at (T .nonzero) [] g (rw (polynomials-count t (gensIn t + 1) (basisCountIn t)) h)
+
 -- terms that are not zero lead with the first
 pub terms-first : (F : ℕ → Term) (i n : ℕ) → terms F i n ≢ [] → (0 < n) × (lead (terms F i n) ≡ F i .word) × (leadCoef (terms F i n) ≡ F i .coef)
 unfolding terms lead leadCoef
@@ -45,20 +50,18 @@ pub record LeadTerm (t : List ℕ) (g : ℕ) : Type 0 where
   pub word : wordIn t (firstIn t (gensIn t + g)) ≡ lead (family (basisIn t) g)
   pub letters : length (lead (family (basisIn t) g)) ≡ sizeIn t (firstIn t (gensIn t + g)) % 256
 
-pub lead-term : (t : List ℕ) → Tabled t → (g : ℕ) → family (basisIn t) g ≢ [] → LeadTerm t g
-lead-term t T zero h = absurd (let q = number-in t zero h .0 in omega arith)
-lead-term t T (suc k) h =
-    let n = number-in t (suc k) h in
-    let hi = n .1 in
+pub lead-term : (t : List ℕ) → Tabled t → (g : ℕ) → 1 ≤ g → g ≤ basisCountIn t → LeadTerm t g
+lead-term t T zero some most = absurd (omega arith)
+lead-term t T (suc k) some most =
     let j = gensIn t + suc k in
     let e = family-basis t k (omega arith) in
-    let f = terms-first (termIn t) (firstIn t j) (firstIn t (suc j) - firstIn t j) (λ z. h (e ∙ z)) in
+    let f = terms-first (termIn t) (firstIn t j) (firstIn t (suc j) - firstIn t j) (λ z. basis-some t T k (omega arith) (e ∙ z)) in
     let lo = f .0 in
     let end = T .most j (omega arith) (omega arith) in
     let i = firstIn t j in
     record {
-      some = n .0;
-      most = hi;
+      some = some;
+      most = most;
       item = omega arith;
       polynomial = e;
       inside = omega arith;

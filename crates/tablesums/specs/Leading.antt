@@ -1,8 +1,7 @@
 -- Leading words of the basis of a table.
 use mathlib.Core.Path.{_≡_}
-use mathlib.Core.Logic.{_≢_}
-use mathlib.Core.List.{List, []}
-use Prim.Native.Nat.{ℕ, _≤_}
+use mathlib.Core.List.{List}
+use Prim.Native.Nat.{ℕ}
 use Rattle.words.specs.Word.{Word}
 use Rattle.words.specs.Laid.{laidWords, Laid}
 use Rattle.algebra.specs.Ideal.{family}
@@ -14,12 +13,6 @@ use Rattle.table.specs.Polynomials.{basisIn}
 -- The leading word of basis polynomial g.
 abbrev pub leadIn : List ℕ → ℕ → Word
 leadIn t g = lead (family (basisIn t) g)
-
--- The basis has a polynomial with the number g, and it is not zero: it has a leading term.
-pub record Leads (t : List ℕ) (g : ℕ) : Type 0 where
-  pub some : 1 ≤ g
-  pub most : g ≤ basisCountIn t
-  pub nonzero : family (basisIn t) g ≢ []
 
 -- The words that heads and headlens lay in the bytes are the leading words of the basis.
 pub record HeadsIn (t heads headlens bytes : List ℕ) : Type 0 where

@@ -12,17 +12,16 @@ use table::numbers::size_in;
 use table::numbers::word_at;
 ghost use mathlib.Core.Path.{_≡_};
 ghost use mathlib.Core.List.{_++_};
-ghost use Prim.Native.Nat.{suc, _<_};
+ghost use Prim.Native.Nat.{_<_};
 ghost use lib.ListN.{length, replicate};
 ghost use Rattle.algebra.specs.Ideal.{family};
 ghost use Rattle.overlaps.specs.Overlaps.{overlapWord};
 ghost use Rattle.overlaps.specs.Position.{overlapOf};
 ghost use Rattle.overlapwords.specs.OverlapPlaces.{cursorOf};
 ghost use Rattle.table.specs.Polynomials.{basisIn};
-ghost use Rattle.table.specs.Table.{firstIn, sizeIn, blocksIn};
+ghost use Rattle.table.specs.Table.{basisCountIn, firstIn, sizeIn, blocksIn};
 ghost use Rattle.table.specs.Tabled.{Tabled};
 ghost use Rattle.table.specs.Words.{wordOf, Built};
-ghost use Rattle.tablesums.specs.Leading.{Leads};
 ghost use Rattle.tablesums.specs.Factors.{frontOf, behindOf, Lapping};
 ghost use Rattle.tablesums.specs.ShortWords.{ShortWord};
 
@@ -71,7 +70,7 @@ pub fn overlap_word(
     b: usize,
     lap: &mut [u64; 9],
 ) -> usize
-    requires { ⌜ Tabled (now t) × Leads (now t) (suc (f .first)) × ShortWord (now t) (behindOf (now t) f) b (now right) × (length (now lap) ≡ 9) ⌝ }
+    requires { ⌜ Tabled (now t) × (f .first < basisCountIn (now t)) × ShortWord (now t) (behindOf (now t) f) b (now right) × (length (now lap) ≡ 9) ⌝ }
     ensures { λ r. ⌜ Built (now (t .entry)) r (now (lap .exit)) ⌝ }
     ensures { λ r. ⌜ wordOf (now (t .entry)) r (now (lap .exit)) ≡ overlapWord (family (basisIn (now (t .entry)))) (overlapOf (cursorOf f)) ⌝ }
 {

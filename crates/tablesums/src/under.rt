@@ -14,11 +14,10 @@ ghost use Rattle.words.specs.Order.{byNumber, byLetters};
 ghost use Rattle.packedwords.specs.Codes.{itself};
 ghost use Rattle.algebra.specs.Ideal.{family};
 ghost use Rattle.table.specs.Polynomials.{basisIn};
-ghost use Rattle.table.specs.Table.{orderIn};
+ghost use Rattle.table.specs.Table.{orderIn, basisCountIn};
 ghost use Rattle.table.specs.Tabled.{Tabled};
 ghost use Rattle.table.specs.Words.{wordOf, lineOf, blockCount, Built};
 ghost use Rattle.acceptance.specs.Check.{isUnder};
-ghost use Rattle.tablesums.specs.Leading.{Leads};
 ghost use Rattle.tablesums.specs.ShortWords.{Short};
 
 // How the word of size z in u stands to that of size e in v: the weights decide, and then as many blocks as the first word takes.
@@ -51,7 +50,7 @@ pub fn is_under(
     e: usize,
     buf: &mut [u64; 9],
 ) -> bool
-    requires { ⌜ Tabled (now t) × Leads (now t) of × Built (now t) e (now lap) × (length (now buf) ≡ 9) ⌝ }
+    requires { ⌜ Tabled (now t) × (1 ≤ of) × (of ≤ basisCountIn (now t)) × Built (now t) e (now lap) × (length (now buf) ≡ 9) ⌝ }
     requires { ⌜ Short (now t) (sizes .left) (now left) × Short (now t) (sizes .right) (now right) ⌝ }
     ensures { λ r. ⌜
         ((x : ℕ)

@@ -5,12 +5,12 @@ use Prim.Native.Nat.{_+_, _-_, _≤_}
 use native.Mathlib.Omega.{arith}
 use lib.ListN.{length, getD}
 use Rattle.working.specs.Family.{familyAt}
-use Rattle.acceptance.specs.Check.{fine, leadsJudged}
+use Rattle.acceptance.specs.Check.{fine, zerosJudged}
 use Rattle.basis.specs.Heads.{HeadsOf}
 use Rattle.basis.specs.Answer.{basisVerdict, HeadsWhere}
 use Rattle.basis.proofs.ToldNumbers.{told-refused, told-fine}
-use Rattle.basis.proofs.BasisAnswers.{lead-judged, apart-told}
-use Rattle.basis.proofs.LeadingHeads.{Filled, filled-none, filled-next, leads-start, leads-zero, leads-next, leads-end, heads-of, start-within, length-within}
+use Rattle.basis.proofs.BasisAnswers.{zero-judged, apart-told}
+use Rattle.basis.proofs.LeadingHeads.{Filled, filled-none, filled-next, zeros-start, zero-refused, zeros-next, zeros-end, heads-of, start-within, length-within}
 use Rattle.basis.proofs.basis.judge_basis.Statement.{statement}
 use Rattle.basis.proofs.basis.judge_basis.Tie as tie
 
@@ -19,7 +19,7 @@ Inv-loop coefs starts lens bytes firsts base count heads₀ headlens₀ g₀ hea
     (g ≤ count)
     × (length heads ≡ length heads₀)
     × (length headlens ≡ length headlens₀)
-    × (leadsJudged (familyAt coefs starts lens bytes firsts (base + g) (count - g)) (g + 1) ≡ leadsJudged (familyAt coefs starts lens bytes firsts base count) 1)
+    × (zerosJudged (familyAt coefs starts lens bytes firsts (base + g) (count - g)) (g + 1) ≡ zerosJudged (familyAt coefs starts lens bytes firsts base count) 1)
     × Filled starts lens firsts base g heads headlens
 
 abbrev μ-loop : tie.MeasureT-loop
@@ -36,8 +36,8 @@ ends i = start (i .before) .pre .0 .runs .most (i .before .loop .g) (i .loop-tes
 -- behind the loop nothing is refused with 8
 led : (i : tie.After-loop Inv-loop μ-loop)
     → let s = start (i .before) .args in
-    fine ≡ leadsJudged (familyAt (s .coefs .now) (s .starts .now) (s .lens .now) (s .bytes .now) (s .firsts .now) (s .base) (s .count)) 1
-led i = leads-end _ _ _ _ _ _ _ (start (i .before) .pre .0) (i .before .loop .g) (i .loop-test .left) ∙ i .before .loop .inv .3
+    fine ≡ zerosJudged (familyAt (s .coefs .now) (s .starts .now) (s .lens .now) (s .bytes .now) (s .firsts .now) (s .base) (s .count)) 1
+led i = zeros-end _ _ _ _ _ _ _ (start (i .before) .pre .0) (i .before .loop .g) (i .loop-test .left) ∙ i .before .loop .inv .3
 
 -- and the leading words are laid
 laid : (i : tie.After-loop Inv-loop μ-loop)
@@ -56,7 +56,7 @@ laid i =
 loop-holds : tie.Need-loop-holds Inv-loop μ-loop
 loop-holds c =
     let s = c .before .before .before .before .before .before .before in
-    (omega arith, search needs, search needs, leads-start _ _ _ _ _ _ _ (s .pre .0), filled-none _ _ _ _ _ _ _ (s .pre .0) _ _)
+    (omega arith, search needs, search needs, zeros-start _ _ _ _ _ _ _ (s .pre .0), filled-none _ _ _ _ _ _ _ (s .pre .0) _ _)
 
 add-a : tie.Need-add-a Inv-loop μ-loop
 add-a c = omega (arith, start (c .before) .pre .0 .runs .marks)
@@ -93,7 +93,7 @@ unfolding basisVerdict HeadsWhere
 returns c =
     let i = c .before .before .before in
     let l = i .before .loop in
-    (lead-judged _ _ (leads-zero _ _ _ _ _ _ _ (start (i .before) .pre .0) (l .g) (i .loop-test .taken) (c .if1 .taken) ∙ l .inv .3), tt)
+    (zero-judged _ _ (zero-refused _ _ _ _ _ _ _ (start (i .before) .pre .0) (l .g) (i .loop-test .taken) (c .if1 .taken) ∙ l .inv .3), tt)
 
 mul-heads : tie.Need-mul-heads Inv-loop μ-loop
 mul-heads c = let i = c .before .before .before in omega (arith, start (i .before) .pre .0 .terms .starts-hold, ends i)
@@ -148,7 +148,7 @@ loop-again c =
       search needs,
       search needs,
       search needs,
-      leads-next _ _ _ _ _ _ _ (s .pre .0) (l .g) t f ∙ l .inv .3,
+      zeros-next _ _ _ _ _ _ _ (s .pre .0) (l .g) t f ∙ l .inv .3,
       filled-next _ _ _ _ _ _ _ (s .pre .0) (l .g) t _ _ (omega arith) (omega arith) f (l .inv .4),
     )
 

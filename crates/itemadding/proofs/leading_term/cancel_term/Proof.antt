@@ -1,6 +1,6 @@
 -- `cancel_term` leaves out the term that the leading term cancels, and takes the others away, the second at that term's place: together the multiple.
 use mathlib.Core.Path.{_≡_, ap, _∙_}
-use Prim.Native.Nat.{suc, _+_, _≤_, _<_}
+use Prim.Native.Nat.{suc, _+_, _-_, _≤_, _<_}
 use native.Mathlib.Numerals.{add-one}
 use native.Mathlib.Omega.{arith}
 use Rattle.words.proofs.Admissible.{lt-around}
@@ -9,8 +9,9 @@ use Rattle.table.specs.Polynomials.{wordIn, termIn}
 use Rattle.table.specs.Table.{fieldIn, orderIn, termsIn, firstIn}
 use Rattle.table.specs.Words.{wordOf}
 use Rattle.table.proofs.FallingWords.{item-falls}
+use Rattle.table.proofs.LeadingTerms.{terms-first}
 use Rattle.packedterms.proofs.LeftOut.{left-out-working, left-out-formula}
-use Rattle.itemadding.proofs.FirstTerm.{has-term, second-behind, cancelled-sum, cancelled-all}
+use Rattle.itemadding.proofs.FirstTerm.{second-behind, cancelled-sum, cancelled-all}
 use Rattle.itemadding.proofs.Sums.{rest-skip}
 use borrow.Author.Needs.{needs}
 use Rattle.itemadding.proofs.leading_term.cancel_term.Statement.{statement}
@@ -26,7 +27,7 @@ inside f =
     let z = start f in
     let t = z .args .t .now in
     let item = z .args .item in
-    let q = has-term (termIn t) (firstIn t item) (firstIn t (suc item)) (z .pre .1 .1 .1 .1 .some) in
+    let q = terms-first (termIn t) (firstIn t item) (firstIn t (suc item) - firstIn t item) (z .pre .1 .1 .1 .1 .some) .0 in
     omega (arith, f .before .first-in .ensures, q, z .pre .0 .0 .most item (z .pre .0 .2) (z .pre .0 .3))
 
 end-is : (f : tie.After-first-in2) → f .first-in2 .result ≡ firstIn (start f .args .t .now) (suc (start f .args .item))

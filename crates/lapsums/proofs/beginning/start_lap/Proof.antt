@@ -29,7 +29,7 @@ start-difference-requires c κs =
     let p = factors (c .before .before .before .before .before .before .before) in
     let s = start p in
     let (tabled, lapped, _) = s .pre .0 in
-    ((tabled, lapped .first .most, lapped .second .most, refl), (p .cut-factors .ensures .0, (p .cut-factors .ensures .1, s .pre .1)))
+    ((tabled, lapped .first, lapped .second, refl), (p .cut-factors .ensures .0, (p .cut-factors .ensures .1, s .pre .1)))
 
 returns : tie.Need-returns
 returns c =

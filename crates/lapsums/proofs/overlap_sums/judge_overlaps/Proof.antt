@@ -26,7 +26,6 @@ use Rattle.tablesums.proofs.Fitting.{short-fits}
 use Rattle.tablesums.proofs.LeadingWords.{lapping}
 use Rattle.tablelies.proofs.SumWords.{line-words}
 use Rattle.lapsums.specs.Judged.{lapsVerdictOf, LapsBehind}
-use Rattle.lapsums.proofs.BasisLeads.{basis-leads}
 use Rattle.lapsums.proofs.CountedHeads.{count-laid, count-short, count-few, count-lapped, count-first, count-behind}
 use Rattle.lapsums.proofs.OverlapsJudging.{OverlapsDone, LapDone, overlaps-start, lap-start, lap-not, lap-over, lap-next, lap-wrong, lap-end}
 use Rattle.lapsums.proofs.OverlapsJudging.{overlaps-end, line-small, line-names, line-tested, line-taken}
@@ -223,7 +222,7 @@ is-under-requires c κs =
     let i = m .loop .inv in
     let n = names x in
     let (l, r) = p .pack-sides .ensures in
-    ((tabled, basis-leads _ tabled _ (n .0) (n .1), begun m .start-lap .ensures .0 .1, i .3), (l .short, r .short))
+    ((tabled, n .0, n .1, begun m .start-lap .ensures .0 .1, i .3), (l .short, r .short))
 
 add-j : tie.Need-add-j Inv-loop μ-loop Inv-items μ-items
 add-j c =

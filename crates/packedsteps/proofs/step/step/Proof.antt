@@ -9,7 +9,7 @@ use Rattle.table.specs.Polynomials.{basisIn}
 use Rattle.packedterms.specs.Formula.{wordAt, termAt}
 use Rattle.packedterms.proofs.Places.{term-place, coef-small}
 use Rattle.packedsteps.specs.Cuts.{CutAt}
-use Rattle.table.proofs.LeadingTerms.{LeadTerm, lead-term}
+use Rattle.table.proofs.LeadingTerms.{number-in, LeadTerm, lead-term}
 use Rattle.packedsteps.proofs.StepLaws.{term-held, step-fits, step-place, step-line, step-sum}
 use borrow.Author.Needs.{needs}
 use Rattle.packedsteps.proofs.step.step.Statement.{statement}
@@ -21,7 +21,10 @@ place s = term-place (s .args .t .now) (s .args .c .now) (s .args .l .now) (s .a
 
 -- what the start says of the polynomial
 leading : (s : tie.Start) → LeadTerm (s .args .t .now) (s .args .of)
-leading s = lead-term (s .args .t .now) (s .pre .0 .0) (s .args .of) (spot-found (basisIn (s .args .t .now)) _ (s .args .i) (s .args .of) (s .pre .1 .1) .0)
+leading s =
+    let a = s .args in
+    let n = number-in (a .t .now) (a .of) (spot-found (basisIn (a .t .now)) _ (a .i) (a .of) (s .pre .1 .1) .0) in
+    lead-term (a .t .now) (s .pre .0 .0) (a .of) (n .0) (n .1)
 
 -- the term's coefficient is an element
 small : (s : tie.Start) → getD (s .args .c .now) (getD (s .args .o .now) (s .args .k) 0) 0 < primeIn (s .args .t .now)

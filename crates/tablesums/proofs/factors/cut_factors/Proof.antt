@@ -17,10 +17,10 @@ abbrev again : tie.After-lead-word2 → tie.After-lead-word
 again x = x .before .before .before .before .before .before .before
 
 first-lead : (z : tie.Start) → LeadTerm (z .args .t .now) (suc (z .args .f .first))
-first-lead z = lead-term (z .args .t .now) (z .pre .0) (suc (z .args .f .first)) (z .pre .1 .first .nonzero)
+first-lead z = lead-term (z .args .t .now) (z .pre .0) (suc (z .args .f .first)) (omega arith) (z .pre .1 .first)
 
 second-lead : (z : tie.Start) → LeadTerm (z .args .t .now) (suc (z .args .f .second))
-second-lead z = lead-term (z .args .t .now) (z .pre .0) (suc (z .args .f .second)) (z .pre .1 .second .nonzero)
+second-lead z = lead-term (z .args .t .now) (z .pre .0) (suc (z .args .f .second)) (omega arith) (z .pre .1 .second)
 
 -- the items that they lead
 first-item : (x : tie.After-lead-word) → x .before .before .before .gens-in .result + 1 + begun x .args .f .first ≡ gensIn (begun x .args .t .now) + suc (begun x .args .f .first)

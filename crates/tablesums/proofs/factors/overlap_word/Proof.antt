@@ -16,7 +16,7 @@ abbrev start : tie.After-first-in → tie.Start
 start x = x .before .before .before
 
 leading : (s : tie.Start) → LeadTerm (s .args .t .now) (suc (s .args .f .first))
-leading s = lead-term (s .args .t .now) (s .pre .0) (suc (s .args .f .first)) (s .pre .1 .nonzero)
+leading s = lead-term (s .args .t .now) (s .pre .0) (suc (s .args .f .first)) (omega arith) (s .pre .1)
 
 first-is : (x : tie.After-first-in) → let a = start x .args in x .first-in .result ≡ firstIn (a .t .now) (gensIn (a .t .now) + suc (a .f .first))
 first-is x =

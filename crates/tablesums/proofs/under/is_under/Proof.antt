@@ -19,7 +19,7 @@ abbrev start : tie.After-first-in → tie.Start
 start x = x .before .before
 
 leading : (s : tie.Start) → LeadTerm (s .args .t .now) (s .args .of)
-leading s = lead-term (s .args .t .now) (s .pre .0 .0) (s .args .of) (s .pre .0 .1 .nonzero)
+leading s = lead-term (s .args .t .now) (s .pre .0 .0) (s .args .of) (s .pre .0 .1) (s .pre .0 .2)
 
 first-is : (x : tie.After-first-in) → let a = start x .args in x .first-in .result ≡ firstIn (a .t .now) (gensIn (a .t .now) + a .of)
 first-is x =
@@ -46,7 +46,7 @@ stands : (q : tie.After-stand) → let b = q .before .before in let a = start (b
 stands q =
     let b = q .before .before in
     let s = start (b .before .before) in
-    q .stand .ensures ∙ built-stand (s .args .t .now) (s .pre .0 .0 .suits) _ _ _ _ (b .build .ensures .0) (s .pre .0 .2)
+    q .stand .ensures ∙ built-stand (s .args .t .now) (s .pre .0 .0 .suits) _ _ _ _ (b .build .ensures .0) (s .pre .0 .3)
 
 gens-in-requires : tie.Need-gens-in-requires
 gens-in-requires c κs = search needs
@@ -61,7 +61,7 @@ build-requires : tie.Need-build-requires
 build-requires c κs =
     let x = c .before in
     let s = start x in
-    let (tabled, _, _, nine) = s .pre .0 in
+    let (tabled, _, _, _, nine) = s .pre .0 in
     let (l, r) = s .pre .1 in
     let L = leading s in
     let few = tabled .short _ (L .inside) in

@@ -1,7 +1,7 @@
--- Each polynomial of a table's basis leads, and the leading words that lie in the bytes have at most 24 letters.
+-- The leading words of a table's basis that lie in the bytes have at most 24 letters.
 use mathlib.Core.Path.{_≡_, sym, ap, _∙_}
 use mathlib.Core.List.{List}
-use Prim.Native.Nat.{ℕ, zero, suc, _+_, _%_, _≤_}
+use Prim.Native.Nat.{ℕ, suc, _+_, _%_}
 use native.Mathlib.Omega.{arith}
 use lib.ListN.{length}
 use Rattle.words.specs.Laid.{laidWord}
@@ -9,23 +9,14 @@ use Rattle.words.proofs.LaidWords.{laid-word-length}
 use Rattle.overlaps.specs.Position.{AtMost24}
 use Rattle.table.specs.Table.{gensIn, basisCountIn, firstIn, sizeIn}
 use Rattle.table.specs.Tabled.{Tabled}
-use Rattle.table.proofs.Inverses.{basis-some}
 use Rattle.table.proofs.LeadingTerms.{lead-term}
-use Rattle.tablesums.specs.Leading.{Leads, HeadsIn}
+use Rattle.tablesums.specs.Leading.{HeadsIn}
 use Rattle.tablesums.proofs.LeadingWords.{lead-laid}
-
-pub basis-leads : (t : List ℕ) → Tabled t → (g : ℕ) → 1 ≤ g → g ≤ basisCountIn t → Leads t g
-basis-leads t T zero some most = absurd (omega arith)
-basis-leads t T (suc k) some most = record {
-  some = some;
-  most = most;
-  nonzero = basis-some t T k (omega arith);
-}
 
 pub heads-short : {t heads headlens bytes : List ℕ} → Tabled t → HeadsIn t heads headlens bytes
     → AtMost24 headlens (basisCountIn t)
 heads-short {t} {heads} {headlens} {bytes} T H g l =
-    let L = lead-term t T (suc g) (basis-some t T g (omega arith)) in
+    let L = lead-term t T (suc g) (omega arith) l in
     let short = T .short (firstIn t (gensIn t + suc g)) (L .inside) in
     let e = laid-word-length heads headlens bytes (basisCountIn t) (H .laid) g l in
     let size : length (laidWord heads headlens bytes g) ≡ sizeIn t (firstIn t (gensIn t + suc g)) % 256 =
