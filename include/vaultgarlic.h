@@ -17,7 +17,10 @@
 extern "C" {
 #endif
 
-/* Refusals, with the meaning of place. */
+/* A package's list has its pairs: first the overlaps of two leading words of the basis, then the inclusions, where the
+ * leading word of one polynomial stands inside that of another or equals it. `overlap` in a name below means a pair. */
+
+/* Refusals, with the meaning of place. 9 is not used: it was given for a leading word inside another, and is kept free. */
 enum {
     VG_ANSWERED = 0,
     VG_TOO_LONG = 1,       /* the package has over 65,536 bytes; 0 */
@@ -28,13 +31,12 @@ enum {
     VG_ORDER = 6,          /* kinds, items or words out of order; line */
     VG_TOO_MANY_TERMS = 7, /* an item's 49th term, or the 1,025th term line; line */
     VG_LEADING = 8,        /* a basis polynomial is zero; its number */
-    VG_HOLDS_ANOTHER = 9,  /* a basis polynomial's leading word holds another's; its number */
     VG_SUM_TOO_LONG = 10,  /* a sum line leaves over 512 terms of what its item still needs; line */
     VG_BASIS_SUM = 11,     /* a B sum is not the basis polynomial; its number */
     VG_RELATION_SUM = 12,  /* a G sum is not the relation; its number */
-    VG_OVERLAP_SUM = 13,   /* an O sum is not the overlap's difference; the overlap's number */
-    VG_NOT_BELOW = 14,     /* an O line is not below its overlap word; line */
-    VG_NO_OVERLAP = 15,    /* an O line's item is above the overlap count; line */
+    VG_OVERLAP_SUM = 13,   /* an O sum is not the pair's difference; the pair's number */
+    VG_NOT_BELOW = 14,     /* an O line is not below its pair's overlap word; line */
+    VG_NO_OVERLAP = 15,    /* an O line's item is above the number of pairs; line */
     VG_FORMULA = 16,       /* the formula does not read; its line */
     VG_TOO_LARGE = 17,     /* a step leaves over 512 terms; the step, from 1 */
     VG_BUDGET = 18,        /* the budget is used and the formula can still be reduced; the budget */
@@ -43,12 +45,12 @@ enum {
 
 typedef struct {
     uint64_t number, place;
-    uint64_t overlaps; /* how many overlaps there are */
+    uint64_t overlaps; /* how many pairs there are: overlaps and inclusions */
 } vg_checked;
 
 typedef struct {
     uint64_t number, place;
-    uint64_t overlaps; /* how many overlaps there are */
+    uint64_t overlaps; /* how many pairs there are: overlaps and inclusions */
     uint64_t written;  /* how many bytes were written */
 } vg_listed;
 
@@ -67,7 +69,8 @@ typedef struct {
 /* Checks the package: number 0 says that it is accepted. Judges refusals 1 to 15. */
 vg_checked vg_check(const uint8_t *package, size_t package_len);
 
-/* Writes the list of the package's overlaps to out. Judges refusals 1 to 9 and 19. */
+/* Writes the list of the package's pairs to out: the line `item first second shared at word`, then a line for each pair.
+ * Judges refusals 1 to 8 and 19. */
 vg_listed vg_list_overlaps(const uint8_t *package, size_t package_len, uint8_t *out, size_t out_len);
 
 /* Writes the formula's short form under the package to out, in at most budget steps. Judges 1 to 15, then 16 to 19.

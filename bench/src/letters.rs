@@ -46,11 +46,13 @@ fn overlap_tests(leads: &[String]) -> Compared {
     compared
 }
 
-/// The tests of refusal 9, where it is not met: for each leading word, whether one of the others stands at a place of it.
-fn inside_tests(leads: &[String]) -> Compared {
+/// A test of inclusions for each leading word, each other one that is shorter, or as long with a higher number, and each
+/// place: whether the other one stands there.
+fn inclusion_tests(leads: &[String]) -> Compared {
     let mut compared = Compared::default();
     for (i, w) in leads.iter().enumerate() {
-        for (_, b) in leads.iter().enumerate().filter(|(k, b)| *k != i && b.len() <= w.len()) {
+        let sought = |k: usize, b: &String| b.len() < w.len() || (b.len() == w.len() && i < k);
+        for (_, b) in leads.iter().enumerate().filter(|(k, b)| sought(*k, b)) {
             for at in 0..=w.len() - b.len() {
                 compared.add(b, &w[at..at + b.len()]);
             }
@@ -62,11 +64,11 @@ fn inside_tests(leads: &[String]) -> Compared {
 /// Tests and letters a test, package by package.
 pub fn table<'a>(packages: impl Iterator<Item = &'a Named>) {
     println!("letters compared a test, from the front and from the end\n");
-    println!("{:16} {:>23}   {:>23}", "", "overlaps", "refusal 9");
+    println!("{:16} {:>23}   {:>23}", "", "overlaps", "inclusions");
     println!("{:16} {heads}   {heads}", "package", heads = "  tests   front     end");
     for Named { name, bytes } in packages {
         let (_, _, leads) = leads(bytes);
-        println!("{name:16} {}   {}", overlap_tests(&leads).columns(), inside_tests(&leads).columns());
+        println!("{name:16} {}   {}", overlap_tests(&leads).columns(), inclusion_tests(&leads).columns());
     }
     println!();
 }

@@ -8,6 +8,7 @@ mod inputs;
 mod leading;
 mod letters;
 mod long_fronts;
+mod many_inclusions;
 mod many_overlaps;
 mod measure;
 mod near_bounds;
@@ -16,6 +17,7 @@ mod random;
 mod single_words;
 mod tables;
 mod timing;
+mod untrimmed;
 
 use inputs::Named;
 use std::env;
@@ -34,13 +36,17 @@ fn main() {
 
     let mut packages = inputs::packages();
     packages.push(Named { name: "near every bound".into(), bytes: near_bounds::package(65_521, 31, 65_536) });
-    let many = Named { name: "many overlaps".into(), bytes: many_overlaps::package() };
-    let fronts = Named { name: "long fronts".into(), bytes: long_fronts::package() };
+    packages.push(Named { name: "untrimmed".into(), bytes: untrimmed::package() });
+    let words = [
+        Named { name: "many overlaps".into(), bytes: many_overlaps::package() },
+        Named { name: "many inclusions".into(), bytes: many_inclusions::package() },
+        Named { name: "long fronts".into(), bytes: long_fronts::package() },
+    ];
     if wanted("packages") {
-        tables::packages(effort, packages.iter().chain([&many, &fronts]));
+        tables::packages(effort, packages.iter().chain(&words));
     }
     if wanted("letters") {
-        letters::table(packages.iter().chain([&many, &fronts]));
+        letters::table(packages.iter().chain(&words));
     }
     if wanted("formulas") {
         tables::formulas(effort, &packages, inputs::stored_formulas);

@@ -10,7 +10,7 @@ use crate::random::Random;
 use std::fmt::Write;
 
 /// Minus c in GF(p), or in GF(256) where p is 256.
-fn minus(p: usize, c: usize) -> usize {
+pub fn minus(p: usize, c: usize) -> usize {
     match p {
         256 => c,
         _ => p - c,
@@ -18,17 +18,14 @@ fn minus(p: usize, c: usize) -> usize {
 }
 
 /// x, and Y as coefficients and words in falling order, the first coefficient 1.
-struct Pair {
-    x: String,
-    y: Vec<(usize, String)>,
+pub struct Pair {
+    pub x: String,
+    pub y: Vec<(usize, String)>,
 }
 
-/// The words of pair i: the first two letters say which pair, and x or y, so that no word begins another.
-fn pair(random: &mut Random, p: usize, i: usize) -> Pair {
-    let (terms, len) = match i {
-        0 => (47, 23),
-        _ => (if i <= 21 { 9 } else { 8 }, 5 + i * 7 % 19),
-    };
+/// Pair i, with so many terms in Y and so many letters in each word: the first two letters say which pair, and x or y, so
+/// that no word begins another.
+pub fn pair(random: &mut Random, p: usize, i: usize, terms: usize, len: usize) -> Pair {
     let prefix = |code: usize| [b'c' + (code / 24) as u8, b'c' + (code % 24) as u8].map(char::from);
     let mut word = |code| String::from_iter(prefix(code)) + &random.word(b'c', b'z', len - 2);
     let x = word(2 * i);
@@ -44,7 +41,12 @@ fn pair(random: &mut Random, p: usize, i: usize) -> Pair {
 /// The package over GF(p), or over GF(256), of so many pairs, 1 to 31, in at most so many bytes.
 pub fn package(p: usize, pairs: usize, bytes: usize) -> Vec<u8> {
     let mut random = Random::new(pairs as u64);
-    let pairs: Vec<Pair> = (0..pairs).map(|i| pair(&mut random, p, i)).collect();
+    let size = |i: usize| match i {
+        0 => (47, 23),
+        _ => (if i <= 21 { 9 } else { 8 }, 5 + i * 7 % 19),
+    };
+    let pairs = (0..pairs).map(|i| pair(&mut random, p, i, size(i).0, size(i).1));
+    let pairs: Vec<Pair> = pairs.collect();
     let n = pairs.len();
     let mut head = format!("p letters gens basis\n{p} 26 {} {}\nkind item coef word\n", 1 + n, 2 + 2 * n);
     terms(&mut head, p, &pairs);

@@ -12,7 +12,7 @@ fn times([ours, tuned, plain]: Three) -> String {
     format!("{ours:>9.2} {tuned:>9.2} {plain:>10.2} {:>6.2}", ours / tuned)
 }
 
-/// Bytes, term lines, sum lines and overlaps of a package.
+/// Bytes, term lines, sum lines and overlaps of a package, inclusions counted with the overlaps.
 fn size(package: &[u8], overlaps: u64) -> String {
     let lines = |fields: usize| {
         let lines = package.split(|byte| *byte == 10).skip(2);

@@ -33,9 +33,9 @@ awk '/^    \$ \.\/[a-z_]* / { inside = 1; next } !/^    / { inside = 0 } inside 
 prints examples/client.c examples/e.pkg examples/aba.formula
 
 cat >"$to/expected" <<'END'
-item first second shared word
-1 1 1 1 aaa
-2 1 2 1 aab
+item first second shared at word
+1 1 1 1 1 aaa
+2 1 2 1 1 aab
 a sum over the relations after 2 steps
 no such sum after 2 steps
 END

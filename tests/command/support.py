@@ -12,7 +12,8 @@ EXAMPLES = os.path.join(ROOT, "examples")
 with open(os.path.join(EXAMPLES, "e.pkg"), "rb") as file:
     E = file.read()
 E_LINES = E.split(b"\n")[:-1]
-E_LIST = b"item first second shared word\n1 1 1 1 aaa\n2 1 2 1 aab\n"
+LIST_NAMES = b"item first second shared at word\n"
+E_LIST = LIST_NAMES + b"1 1 1 1 1 aaa\n2 1 2 1 1 aab\n"
 
 
 def text(lines):
@@ -28,11 +29,15 @@ def formula(*terms):
     return text((b"coef word",) + terms)
 
 
-def many_overlaps():
-    """A package whose list is longer than 65,536 bytes: 250,130, as decision A40 has it."""
-    words = [b"a" * i + b"b" + b"a" * (23 - i) for i in range(24)]
-    return text([b"p letters gens basis", b"7 2 0 24", b"kind item coef word"]
+def monomials(*words):
+    """A package without relations whose basis polynomials are the words."""
+    return text([b"p letters gens basis", b"7 2 0 %d" % len(words), b"kind item coef word"]
                 + [b"B %d 1 %s" % (i + 1, word) for i, word in enumerate(words)] + [b"kind item coef left of right"])
+
+
+def many_overlaps():
+    """A package whose list is longer than 65,536 bytes (decision A40): 263,477."""
+    return monomials(*[b"a" * i + b"b" + b"a" * (23 - i) for i in range(24)])
 
 
 def run(*words, stdin=b"", **more):

@@ -48,6 +48,16 @@ class Documents(unittest.TestCase):
         self.assertEqual([int(number) for number, _ in rows], list(range(1, len(E_LINES) + 1)))
         self.assertEqual([line.encode() for _, line in rows], E_LINES)
 
+    def test_the_pairs_explained_in_format(self):
+        package = os.path.join(ROOT, "examples", "untrimmed", "e_untrimmed.pkg")
+        with open(os.path.join(ROOT, "docs", "FORMAT.md"), encoding="utf-8") as file:
+            rows = re.findall(r"^\| `(\d+ \d+ \d+ \d+ \d+ \w+)` \| .* \|(?: (`O .*`))? \|$", file.read(), re.M)
+        listed = subprocess.run([COMMAND, "overlaps", package], stdout=subprocess.PIPE, check=True).stdout.decode("ascii")
+        self.assertEqual([line for line, _ in rows], listed.split("\n")[1:-1])
+        with open(package, encoding="ascii") as file:
+            lines = [line for line in file.read().split("\n") if line.startswith("O ")]
+        self.assertEqual([line for _, cell in rows for line in re.findall(r"`([^`]*)`", cell)], lines)
+
     def test_the_table_of_packages(self):
         with open(os.path.join(ROOT, "examples", "README.md"), encoding="utf-8") as file:
             rows = re.findall(r"^\| `(\w+\.pkg)` \| .* \| (\d+) \| (\d+) \| (\d+) \| (\d+) \| (\d+) \|$", file.read(), re.M)

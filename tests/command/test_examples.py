@@ -11,7 +11,7 @@ from support import COMMAND, EXAMPLES, run
 
 # Number and place of each refusal: 01's table 'Numbers and places', where the input is one of that table's. Lines of 07 and 10: three lines
 # above the terms, so the 49th is line 52; 48 + 1 terms, the names line 53, so the eleventh sum line is line 64. 08 has three basis polynomials
-# by line 2, and terms of two.
+# by line 2, and terms of two. The second of 13 and of 14 are wrong in pair 7, an inclusion, whose first O line is line 28.
 REFUSED = {
     "01-too-long": (1, 0),
     "02-shape": (2, 1),
@@ -22,12 +22,13 @@ REFUSED = {
     "06-order": (6, 5),
     "07-too-many-terms": (7, 52),
     "08-zero-polynomial": (8, 3),
-    "09-holds-another": (9, 2),
     "10-sum-too-long": (10, 64),
     "11-basis-sum": (11, 2),
     "12-relation-sum": (12, 1),
     "13-overlap-sum": (13, 1),
+    "13-inclusion-sum": (13, 7),
     "14-not-below": (14, 15),
+    "14-inclusion-not-below": (14, 28),
     "15-no-overlap": (15, 18),
     "singular-moore-penrose": (11, 1),
 }
@@ -55,7 +56,7 @@ class Refused(unittest.TestCase):
         if number == 1:
             self.assertRegex(told, r"\A[^\n]*%s\.pkg: refused 1: " % name)
             return 0
-        if number in (8, 9, 11, 12, 13):
+        if number in (8, 11, 12, 13):
             found = re.search(ITEM % name, told)
             self.assertIsNotNone(found, told)
             self.assertEqual(int(found.group(1)), number)
@@ -74,7 +75,7 @@ class Refused(unittest.TestCase):
                 self.assertEqual(self.place(name, number, told.decode("ascii")), place)
 
     def test_every_number_has_one(self):
-        self.assertEqual(sorted({number for number, _ in REFUSED.values()}), list(range(1, 16)))
+        self.assertEqual({number for number, _ in REFUSED.values()}, set(range(1, 16)) - {9})
 
     def test_every_package_is_in_the_table(self):
         names = {os.path.basename(path)[:-4] for path in glob.glob(os.path.join(self.refused, "*.pkg"))}
@@ -95,6 +96,12 @@ class Refused(unittest.TestCase):
                 self.assertEqual((status, out), (expected, b"" if expected else b"accepted, 2 overlaps\n"))
                 self.assertEqual(told.startswith(b"vaultgarlic: <stdin>:2: refused 3: "), expected == 1)
 
+    def test_wrong_inclusions_differ_from_the_right_package_in_their_o_lines(self):
+        right = content(os.path.join(EXAMPLES, "untrimmed", "e_untrimmed.pkg")).split(b"\n")
+        self.assertEqual(content(os.path.join(self.refused, "13-inclusion-sum.pkg")).split(b"\n"), right[:27] + [b""])
+        self.assertEqual(content(os.path.join(self.refused, "14-inclusion-not-below.pkg")).split(b"\n"),
+                         right[:27] + [b"O 7 1 - 3 -", b"O 7 6 a 2 -"] + right[29:])
+
     def test_singular_differs_from_the_right_package_in_one_line(self):
         wrong = content(os.path.join(self.refused, "singular-moore-penrose.pkg")).split(b"\n")
         right = content(os.path.join(EXAMPLES, "mp_unique.pkg")).split(b"\n")
@@ -104,8 +111,8 @@ class Refused(unittest.TestCase):
 
 class Accepted(unittest.TestCase):
     def test_packages(self):
-        packages = sorted(glob.glob(os.path.join(EXAMPLES, "*.pkg")) + glob.glob(os.path.join(EXAMPLES, "scaled", "*.pkg")))
-        self.assertEqual(len(packages), 10)
+        packages = [path for folder in ("", "scaled", "untrimmed") for path in sorted(glob.glob(os.path.join(EXAMPLES, folder, "*.pkg")))]
+        self.assertEqual(len(packages), 12)
         for package in packages:
             with self.subTest(os.path.basename(package)):
                 status, out, told = run(COMMAND, "check", package)
@@ -140,7 +147,7 @@ class Scaled(unittest.TestCase):
         for service in ("check", "overlaps"):
             self.assertEqual(run(COMMAND, service, scaled), run(COMMAND, service, e))
         formulas = glob.glob(os.path.join(EXAMPLES, "formulas", "e-*.formula")) + [os.path.join(EXAMPLES, "aba.formula")]
-        self.assertEqual(len(formulas), 4)
+        self.assertEqual(len(formulas), 5)
         for formula in formulas:
             for service in ("short", "member"):
                 with self.subTest(service + " " + os.path.basename(formula)):
@@ -149,12 +156,54 @@ class Scaled(unittest.TestCase):
                     self.assertEqual(answer, run(COMMAND, service, "--steps", e, formula))
 
 
+def block(name, kind, number):
+    """The lines of a package of that kind and with so many fields, without the kind."""
+    lines = content(os.path.join(EXAMPLES, name)).split(b"\n")[3:]
+    return [line[2:] for line in lines if line.startswith(kind + b" ") and line.count(b" ") == number - 1]
+
+
+class Untrimmed(unittest.TestCase):
+    """untrimmed/e_untrimmed.pkg has two basis polynomials more than e.pkg; mp_unique_untrimmed.pkg has the relations of mp_unique.pkg before its
+    basis polynomials."""
+
+    def test_basis_of_e(self):
+        for kind, number in ((b"G", 4), (b"G", 6)):
+            self.assertEqual(block("untrimmed/e_untrimmed.pkg", kind, number), block("e.pkg", kind, number))
+        terms, sums = ([block(name, b"B", number) for name in ("untrimmed/e_untrimmed.pkg", "e.pkg")] for number in (4, 6))
+        self.assertEqual(terms[0], terms[1] + [b"3 1 aab", b"3 6 bb", b"4 1 ab", b"4 6 ba"])
+        self.assertEqual(sums[0], sums[1] + [b"3 1 - 1 b", b"4 1 - 1 a", b"4 6 a 1 -"])
+
+    def test_basis_of_mp_unique(self):
+        def behind(line):
+            item, rest = line.split(b" ", 1)
+            return b"%d %s" % (int(item) + 12, rest)
+
+        trimmed, whole = "mp_unique.pkg", "untrimmed/mp_unique_untrimmed.pkg"
+        relations = block(trimmed, b"G", 4)
+        self.assertEqual(block(whole, b"G", 4), relations)
+        self.assertEqual(block(whole, b"B", 4), relations + [behind(line) for line in block(trimmed, b"B", 4)])
+        own = [b"%d 1 - %d -" % (i, i) for i in range(1, 13)]
+        self.assertEqual(block(whole, b"B", 6), own + [behind(line) for line in block(trimmed, b"B", 6)])
+        self.assertEqual(block(whole, b"G", 6), own)
+
+    def test_overlaps_and_inclusions_of_mp_unique(self):
+        name = "untrimmed/mp_unique_untrimmed.pkg"
+        leads = {}
+        for line in block(name, b"B", 4):
+            item, _, word = line.split(b" ")
+            leads.setdefault(item, word)
+        rows = [line.split(b" ") for line in run(COMMAND, "overlaps", os.path.join(EXAMPLES, name))[1].split(b"\n")[1:-1]]
+        inside = [row[5] == leads[row[1]] for row in rows]
+        self.assertEqual(inside, [False] * 106 + [True] * 24)
+
+
 class Formulas(unittest.TestCase):
-    """examples/README.md has a row for each formula, with its package and the steps; the short form stands beside the formula."""
+    """examples/README.md has a row for each formula, with its package and the steps, and for some a second one, with a package of the same
+    relations; the short form stands beside the formula."""
 
     def rows(self):
         with open(os.path.join(EXAMPLES, "README.md"), encoding="utf-8") as file:
-            return re.findall(r"^\| `(\w+-\d)` \| `(\w+)\.pkg` \| (\d+) \|", file.read(), re.M)
+            return re.findall(r"^\| `(\w+-\d)` \| `([\w/]+)\.pkg` \| (\d+) \|", file.read(), re.M)
 
     def test_every_formula_has_its_row(self):
         for ending in (".formula", ".short"):
@@ -163,7 +212,7 @@ class Formulas(unittest.TestCase):
 
     def test_short_forms(self):
         for name, package, steps in self.rows():
-            with self.subTest(name):
+            with self.subTest(name + " under " + package):
                 package = os.path.join(EXAMPLES, package + ".pkg")
                 formula = os.path.join(EXAMPLES, "formulas", name + ".formula")
                 short = content(os.path.join(EXAMPLES, "formulas", name + ".short"))

@@ -1,21 +1,31 @@
 """How each refusal is told. Numbers and places are those of document 01 and of its readings in docs/DECISIONS.md."""
-from support import Command, E, E_LINES, formula, text, with_line
+import os
+
+from support import Command, E, E_LINES, EXAMPLES, formula, text, with_line
 
 TERM = "the line has the wrong shape; it must be `G item coef word`, or B for G, or the names line `kind item coef left of right`"
 BOUNDS = "a coefficient, letter, word length, item or `of` is out of bounds"
 HERE = "      | bounds here: coef 1 to 6; letters a to b, 24 in a word; G 1 to 1; B 1 to 2"
+NOT_BELOW = "left, the leading word of `of` and right make a word that is not below the overlap word"
+NAMES = "      | item first second shared at word"
+
+
+def untrimmed():
+    """The lines of E with aab - bb and a second ab - ba in its basis; lines 28 to 31 are the O sums 7 and 8."""
+    with open(os.path.join(EXAMPLES, "untrimmed", "e_untrimmed.pkg"), "rb") as file:
+        return file.read().split(b"\n")[:-1]
 
 
 class OfPackages(Command):
     def told(self, content, where, number, words, *shown):
-        """Check and the formula services tell the same; so does listing for 1 to 9."""
+        """Check and the formula services tell the same; so does listing for 1 to 8."""
         self.put("any.pkg", content)
         self.put("zero", formula())
         expected = ["vaultgarlic: any.pkg%s: refused %d: %s" % (where, number, words)] + list(shown)
         self.refuses(expected, "check", "any.pkg")
         self.refuses(expected, "short", "any.pkg", "zero")
         self.refuses(expected, "member", "any.pkg", "zero")
-        if number < 10:
+        if number < 9:
             self.refuses(expected, "overlaps", "any.pkg")
         else:
             self.assertEqual(self.run_command("overlaps", "any.pkg")[0], 0)
@@ -88,9 +98,6 @@ class OfPackages(Command):
         self.told(with_line(2, b"7 2 1 3"), "", 8, "B 3 is the zero polynomial", "      | no term line has B 3")
         self.told(text(E_LINES[:5] + E_LINES[7:]), "", 8, "B 1 is the zero polynomial", "      | no term line has B 1")
 
-    def test_9(self):
-        self.told(with_line(8, b"B 2 1 aab"), "", 9, "the leading word of B 2 holds that of another basis polynomial", "    8 | B 2 1 aab")
-
     def test_11(self):
         words = "B %d is not the sum over the relations that its B lines give"
         self.told(with_line(13), "", 11, words % 2, "    8 | B 2 1 ab", "   12 | B 2 1 - 1 a")
@@ -101,21 +108,42 @@ class OfPackages(Command):
         self.told(with_line(6, b"B 1 2 aa"), "", 11, "B 1 is not the sum over the relations that its B lines give", "    6 | B 1 2 aa",
                   "   11 | B 1 1 - 1 -")
 
+    def test_11_of_a_leading_word_that_holds_another(self):
+        # 01's input for 9: aab + 6 ba may be in a basis beside aa + 6 b, but its B lines give ab + 6 ba.
+        self.told(with_line(8, b"B 2 1 aab"), "", 11, "B 2 is not the sum over the relations that its B lines give", "    8 | B 2 1 aab",
+                  "   12 | B 2 1 - 1 a")
+
     def test_12(self):
         self.told(with_line(14), "", 12, "G 1 is not the sum over the basis that its G lines give", "    4 | G 1 1 aa", "      | no sum line has G 1")
 
     def test_13(self):
         words = "the difference of overlap %d is not the sum that its O lines give"
-        names = "      | item first second shared word"
-        self.told(with_line(15), "", 13, words % 1, names, "      | 1 1 1 1 aaa", "      | no sum line has O 1")
-        self.told(with_line(17), "", 13, words % 2, names, "      | 2 1 2 1 aab", "   16 | O 2 1 - 2 a")
+        self.told(with_line(15), "", 13, words % 1, NAMES, "      | 1 1 1 1 1 aaa", "      | no sum line has O 1")
+        self.told(with_line(17), "", 13, words % 2, NAMES, "      | 2 1 2 1 1 aab", "   16 | O 2 1 - 2 a")
+
+    def test_13_of_an_inclusion(self):
+        # Each line of the O sums 7 and 8 left out in turn, and all of them; and a line for pair 6, whose difference is zero.
+        words = "the difference of overlap %d is not the sum that its O lines give"
+        lines = untrimmed()
+        for left_out, item, word, shown in ((28, 7, "7 3 2 2 1 aab", "   28 | O 7 1 b 1 -"), (29, 7, "7 3 2 2 1 aab", "   28 | O 7 1 - 2 a"),
+                                            (30, 8, "8 3 4 2 1 aab", "   30 | O 8 1 b 1 -"), (31, 8, "8 3 4 2 1 aab", "   30 | O 8 1 - 2 a")):
+            self.told(text(lines[: left_out - 1] + lines[left_out:]), "", 13, words % item, NAMES, "      | " + word, shown)
+        self.told(text(lines[:27]), "", 13, words % 7, NAMES, "      | 7 3 2 2 1 aab", "      | no sum line has O 7")
+        self.told(text(lines[:27] + [b"O 6 1 b 1 -"] + lines[27:]), "", 13, words % 6, NAMES, "      | 6 3 1 2 0 aab", "   28 | O 6 1 b 1 -")
 
     def test_14(self):
-        self.told(with_line(15, b"O 1 1 a 1 -"), ":15", 14, "left, the leading word of `of` and right make a word that is not below the overlap word",
-                  "      | item first second shared word", "      | 1 1 1 1 aaa", "   15 | O 1 1 a 1 -")
+        self.told(with_line(15, b"O 1 1 a 1 -"), ":15", 14, NOT_BELOW, NAMES, "      | 1 1 1 1 1 aaa", "   15 | O 1 1 a 1 -")
+
+    def test_14_of_an_inclusion(self):
+        # The word is the first leading word. That of pair 7 is aab: B 3 leads with it, and so does a x B 2; B 1 x a with aaa, above it.
+        lines = untrimmed()
+        for line in (b"O 7 1 - 3 -", b"O 7 6 a 2 -", b"O 7 1 - 1 a"):
+            self.told(text(lines[:27] + [line] + lines[29:]), ":28", 14, NOT_BELOW, NAMES, "      | 7 3 2 2 1 aab", "   28 | " + line.decode())
+        self.told(text(lines[:27] + [b"O 5 1 - 2 -"] + lines[27:]), ":28", 14, NOT_BELOW, NAMES, "      | 5 2 4 2 0 ab", "   28 | O 5 1 - 2 -")
 
     def test_15(self):
         self.told(E + b"O 3 1 - 1 -\n", ":18", 15, "there is no such overlap; the package has 2", "   18 | O 3 1 - 1 -")
+        self.told(text(untrimmed() + [b"O 9 1 - 1 -"]), ":32", 15, "there is no such overlap; the package has 8", "   32 | O 9 1 - 1 -")
 
 
 class OfFormulas(Command):

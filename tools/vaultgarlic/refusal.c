@@ -116,10 +116,6 @@ static void tell_item(const input *package, uint64_t number, uint64_t place)
         fprintf(stderr, "B %" PRIu64 " is the zero polynomial\n", place);
         show_item(package, 0, 'B', place);
         break;
-    case VG_HOLDS_ANOTHER:
-        fprintf(stderr, "the leading word of B %" PRIu64 " holds that of another basis polynomial\n", place);
-        show_item(package, 0, 'B', place);
-        break;
     case VG_BASIS_SUM:
         fprintf(stderr, "B %" PRIu64 " is not the sum over the relations that its B lines give\n", place);
         show_item(package, 0, 'B', place);
@@ -171,7 +167,6 @@ void tell_refusal(const input *package, const input *formula, uint64_t number, u
             fputs("a package has at most 65536 bytes, this one has more\n", stderr);
         break;
     case VG_LEADING:
-    case VG_HOLDS_ANOTHER:
     case VG_BASIS_SUM:
     case VG_RELATION_SUM:
     case VG_OVERLAP_SUM:

@@ -7,6 +7,7 @@ import basis
 import cases
 import formulas
 import gf256
+import given
 import listing
 import order
 import packing
@@ -16,7 +17,8 @@ import real
 import scaled
 import sums
 import terms
+import untrimmed
 
-for part in (reading, basis, sums, terms, formulas, order, listing, real, gf256, places, packing, scaled):
+for part in (reading, basis, sums, terms, formulas, order, listing, real, gf256, places, packing, scaled, untrimmed, given):
     part.cases()
 cases.write()

@@ -1,10 +1,12 @@
-"""Refusals 8 and 9: a zero polynomial in the basis (P4), and leading words inside one another. Every service gives them."""
+"""Refusal 8, a zero polynomial in the basis (P4), which every service gives; and leading words inside one another, for which 9 is no longer met
+(P2)."""
 from cases import accepted, listed, refused, shortened, unread
 from packages import CONSTANT, E_LIST, NOTHING, copies, formula, monomials, own_basis, package, with_line, with_lines
+from pairs import leading_words, pair_list
 
 
 def zero_polynomials():
-    unread("A20 8 of item 2 before 9 of item 1", package("7 2 1 3", ["B 1 1 aab", "B 3 1 aa"]), 8, 2)
+    unread("A20 8 of item 2, and item 1 holds item 3", package("7 2 1 3", ["B 1 1 aab", "B 3 1 aa"]), 8, 2)
     unread("A20 no B 3 line", with_line(2, "7 2 1 3"), 8, 3)
     unread("no B line", package("7 2 1 2", []), 8, 1)
     unread("no B 1 line", with_lines({6: [], 7: []}), 8, 1)
@@ -18,21 +20,26 @@ def leading_with_others():
     refused("01 row 8, P4: `B 1 2 aa`", with_line(6, "B 1 2 aa"), 11, 1)
     listed("01 row 8, P4: `B 1 2 aa`", with_line(6, "B 1 2 aa"), E_LIST)
     refused("P4 leading coef p-1", with_line(8, "B 2 6 ab"), 11, 2)
-    unread("P4 9 of a polynomial that leads with 2", package("7 2 1 2", ["B 1 1 aab", "B 2 2 aa"]), 9, 1)
     terms = ["G 1 1 ab", "G 1 2 b", "B 1 1 ab", "B 1 2 b"]
     accepted("a coef of 2 behind the leading one", package("7 2 1 1", terms, ["B 1 1 - 1 -", "G 1 1 - 1 -"]), 0)
 
 
 def inside_another():
-    unread("01 row 9: `B 2 1 aab`", with_line(8, "B 2 1 aab"), 9, 2)
-    unread("A21 equal leading words", with_line(8, "B 2 1 aa"), 9, 1)
-    unread("A21 B 1 `bab`, B 2 `ab`", monomials(["bab", "ab"]), 9, 1)
-    unread("a word inside, in the middle", monomials(["ab", "cc", "cabc"]), 9, 3)
-    unread("A22 B 1 `-`, B 2 `a`", monomials(["-", "a"]), 9, 2)
-    unread("A22 B 1 `a`, B 2 `-`", monomials(["a", "-"]), 9, 1)
-    unread("two items hold others", monomials(["aa", "aab", "baa"]), 9, 2)
-    unread("a word of one letter inside", monomials(["bba", "a"]), 9, 1)
-    unread("24 letters hold one", monomials(["b" * 23 + "a", "a"]), 9, 1)
+    """01's row 9 and its like are refused by 9 no more (P2): they are listed, and the first wrong B sum is told."""
+    for name, whole, item in (
+        ("01 row 9: `B 2 1 aab`", with_line(8, "B 2 1 aab"), 2),
+        ("A21 equal leading words", with_line(8, "B 2 1 aa"), 2),
+        ("A21 B 1 `bab`, B 2 `ab`", monomials(["bab", "ab"]), 1),
+        ("a word inside, in the middle", monomials(["ab", "cc", "cabc"]), 1),
+        ("A22 B 1 `-`, B 2 `a`", monomials(["-", "a"]), 1),
+        ("A22 B 1 `a`, B 2 `-`", monomials(["a", "-"]), 1),
+        ("two items hold others", monomials(["aa", "aab", "baa"]), 1),
+        ("a word of one letter inside", monomials(["bba", "a"]), 1),
+        ("24 letters hold one", monomials(["b" * 23 + "a", "a"]), 1),
+        ("P4 the word inside leads with 2", package("7 2 1 2", ["B 1 1 aab", "B 2 2 aa"]), 1),
+    ):
+        listed(name, whole, pair_list(leading_words(whole)))
+        refused(name, whole, 11, item)
     accepted("a leading word inside a lower term", own_basis(7, 3, [["acc", "ab"], ["ab"]]), 0)
     accepted("letters of a leading word apart", own_basis(7, 3, [["ab"], ["acb"]]), 0)
 

@@ -67,7 +67,7 @@ def refused(name, package, number, place, services="CSM", formula=UNREADABLE, bu
 
 
 def unread(name, package, number, place, services="LCSM"):
-    """Refusals 1 to 9, which listing judges too."""
+    """Refusals 1 to 8, which listing judges too."""
     refused(name, package, number, place, services)
 
 

@@ -5,6 +5,7 @@ A sum is the exclusive or of the bits. x times a number is the number shifted by
 """
 from cases import accepted, both_sides, halted, listed, prints, refused, shortened, unread
 from packages import E, E_LIST, LINES, LIST_NAMES, formula, package, with_line
+from pairs import pair_list
 
 NOTHING = package("256 2 0 0", [])
 # E with 1 for 6, which is -1 modulo 7: its sums hold where 1 + 1 is 0.
@@ -66,7 +67,8 @@ def coefficients():
     shortened("P9.1 255 in a package", equal(255), formula("1 a"), 1, formula("255 b"))
     # Its B sum is aa + b still.
     refused("P9.1 a basis polynomial leads with 255", over(6, "B 1 255 aa"), 11, 1)
-    unread("P9.1 a leading word holds another's", over(8, "B 2 1 aab"), 9, 2)
+    refused("P9.1 a leading word holds another's", over(8, "B 2 1 aab"), 11, 2)
+    listed("P9.1 a leading word holds another's", over(8, "B 2 1 aab"), pair_list(["aa", "aab"]))
 
 
 def products():
@@ -124,7 +126,7 @@ def reed_solomon():
     cg, dg, eg become zero."""
     with open("examples/reed_solomon.pkg", encoding="ascii", newline="") as file:
         whole = file.read()
-    words = ["%d %d 5 1 %saaaaf\n" % (i, i, x) for i, x in enumerate("bcde", 1)]
+    words = ["%d %d 5 1 1 %saaaaf\n" % (i, i, x) for i, x in enumerate("bcde", 1)]
     accepted("example reed_solomon", whole, 4)
     listed("example reed_solomon", whole, LIST_NAMES + "".join(words))
     shortened("example reed_solomon, `128 ca`", whole, formula("128 ca"), 1, formula("29 c"))

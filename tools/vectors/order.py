@@ -1,6 +1,7 @@
 """The order of refusals: packages and formulas with two faults, of which the earlier one by 01's 'Order' is given."""
-from cases import halted, refused, unread
+from cases import halted, listed, refused, unread
 from packages import E, LINES, falling, formula, forty_eight, with_line, with_lines
+from pairs import pair_list
 
 
 def lines_top_down():
@@ -18,13 +19,19 @@ def lines_top_down():
 
 def reading_before_judging():
     unread("2 of line 17 before 8", with_lines({2: ["7 2 1 3"], 17: ["O 2 1 b 1"]}), 2, 17)
-    unread("5 of line 17 before 9", with_lines({8: ["B 2 1 aab"], 17: ["O 2 1 b 9 -"]}), 5, 17)
+    unread("5 of line 17 before 11 of B 2, `aab`", with_lines({8: ["B 2 1 aab"], 17: ["O 2 1 b 9 -"]}), 5, 17)
     unread("6 of line 18 before 8", with_lines({2: ["7 2 1 3"], 18: ["B 1 1 - 1 -"]}), 6, 18)
     unread("8 before 11", with_lines({2: ["7 2 1 3"], 11: []}), 8, 3)
     unread("8 of B 2 before 11 of B 1", with_lines({8: [], 9: [], 11: []}), 8, 2)
-    unread("9 before 11", with_lines({8: ["B 2 1 aab"], 11: []}), 9, 2)
     unread("8 before 15", with_lines({2: ["7 2 1 3"], 18: ["O 3 1 - 1 -"]}), 8, 3)
-    unread("9 before 14", with_lines({8: ["B 2 1 aab"], 15: ["O 1 1 a 1 -"]}), 9, 2)
+    no_nine("no 9 before 11", with_lines({8: ["B 2 1 aab"], 11: []}), 11, 1)
+    no_nine("no 9 before 14", with_lines({8: ["B 2 1 aab"], 15: ["O 1 1 a 1 -"]}), 11, 2)
+
+
+def no_nine(name, content, number, place):
+    """B 2's leading word aab holds B 1's, aa: 9 is no longer met (P2), and the first wrong sum is told."""
+    listed(name, content, pair_list(["aa", "aab"]))
+    refused(name, content, number, place)
 
 
 def sums_in_order():
@@ -50,23 +57,24 @@ def formulas_last():
     """The whole package, then 16, then 17 and 18 as steps go, then 19. Each fault is given with every later one: a formula that does not
     read, then one that does, with budget 0 and no room."""
     readable = formula("1 aba")
-    for number, place, content in (
+    for number, place, content, *more in (
         (2, 1, with_line(1, "p letters basis gens")),
         (3, 2, with_line(2, "9 2 1 2")),
         (4, 2, with_line(2, "7 27 1 2")),
         (5, 4, with_line(4, "G 1 7 aa")),
         (6, 5, with_lines({4: [LINES[4]], 5: [LINES[3]]})),
         (8, 3, with_line(2, "7 2 1 3")),
-        (9, 2, with_line(8, "B 2 1 aab")),
+        (11, 2, with_line(8, "B 2 1 aab"), " (P2)"),
         (11, 2, with_line(13)),
         (12, 1, with_line(14)),
         (13, 1, with_line(15)),
         (14, 15, with_line(15, "O 1 1 a 1 -")),
         (15, 18, with_line(18, "O 3 1 - 1 -")),
     ):
-        refused("%d before 16 and 19" % number, content, number, place, "SM", "x", 0, 0)
-        refused("%d before 18 and 19" % number, content, number, place, "SM", readable, 0, 0)
-        refused("%d, and the budget would do" % number, content, number, place, "SM", readable, 2)
+        name = "%d%s" % (number, "".join(more))
+        refused(name + " before 16 and 19", content, number, place, "SM", "x", 0, 0)
+        refused(name + " before 18 and 19", content, number, place, "SM", readable, 0, 0)
+        refused(name + ", and the budget would do", content, number, place, "SM", readable, 2)
     refused("A33 13 before 16: no formula byte", with_line(15), 13, 1, "SM", "")
     halted("16 before 18", E, formula("1 aba", "7 a"), 16, 3, 0)
 

@@ -4,8 +4,8 @@ import itertools
 with open("examples/e.pkg", encoding="ascii") as file:
     E = file.read()
 LINES = E.split("\n")[:-1]
-LIST_NAMES = "item first second shared word\n"
-E_LIST = LIST_NAMES + "1 1 1 1 aaa\n2 1 2 1 aab\n"
+LIST_NAMES = "item first second shared at word\n"
+E_LIST = LIST_NAMES + "1 1 1 1 1 aaa\n2 1 2 1 1 aab\n"
 LETTERS = "abcdefghijklmnopqrstuvwxyz"
 
 

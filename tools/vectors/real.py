@@ -7,30 +7,10 @@ import json
 import os
 
 from cases import accepted, both_sides, listed, refused, shortened
-from packages import LIST_NAMES, formula
+from packages import formula
+from pairs import leading_words, pair_list
 
 NAMES = ("e", "conv_encoder", "mp_unique", "weyl_a3", "hecke_a4", "clifford_4_3", "temperley_lieb_7", "coxeter_s8")
-
-
-def leading_words(package):
-    """The word of the first term line of each basis polynomial."""
-    fields = [line.split(" ") for line in package.split("\n")]
-    first = {}
-    for f in fields:
-        if f[0] == "B" and len(f) == 4:
-            first.setdefault(int(f[1]), f[3])
-    return [first[i] for i in sorted(first)]
-
-
-def overlap_list(words):
-    """The overlaps of leading words as 01 lists them: by first, second and shared, rising, and numbered from 1."""
-    lines = []
-    for i, u in enumerate(words, 1):
-        for j, v in enumerate(words, 1):
-            for shared in range(1, min(len(u), len(v))):
-                if u[-shared:] == v[:shared]:
-                    lines.append("%d %d %d %d %s\n" % (len(lines) + 1, i, j, shared, u + v[shared:]))
-    return LIST_NAMES + "".join(lines)
 
 
 def cases():
@@ -38,7 +18,7 @@ def cases():
     for name in NAMES:
         with open("examples/%s.pkg" % name, encoding="ascii", newline="") as f:
             packages[name] = f.read()
-        words = overlap_list(leading_words(packages[name]))
+        words = pair_list(leading_words(packages[name]))
         accepted("example " + name, packages[name], words.count("\n") - 1)
         listed("example " + name, packages[name], words)
     with open(os.path.join(os.path.dirname(__file__), "facts.json")) as f:

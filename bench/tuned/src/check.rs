@@ -2,8 +2,8 @@
 
 use crate::block::{compare, Frame, Long, SHORT};
 use crate::field::Field;
-use crate::overlaps::{overlaps, Overlap};
 use crate::package::Package;
+use crate::pairs::{pairs, Pair};
 use crate::sums::SumLine;
 use crate::terms::Poly;
 use crate::working::{Working, MOST};
@@ -38,7 +38,7 @@ fn no_sides() -> Frame {
     Frame::new([0; SHORT], 0, [0; SHORT], 0)
 }
 
-/// B items with 10 and 11, G items with 10 and 12, then 15, then O items with 14, 10 and 13. Gives the overlap count.
+/// B items with 10 and 11, G items with 10 and 12, then 15, then O items with 14, 10 and 13. Gives the count of pairs.
 pub fn judge_sums<F: Field>(
     field: F,
     package: &Package,
@@ -54,12 +54,12 @@ pub fn judge_sums<F: Field>(
         working.start(field, 1, &mut no_sides(), package.relation(item));
         judge_sum(field, package, working, &mut lines, (1, item), 12, |of| package.basis_poly(of))?;
     }
-    let list = overlaps(package);
+    let list = pairs(package);
     if let Some(k) = lines.sums.iter().position(|sum| sum.item as usize > list.len()) {
         return refuse(15, lines.line + k);
     }
-    for (item, overlap) in list.iter().enumerate() {
-        judge_overlap(field, package, inverses, working, &mut lines, (item, *overlap))?;
+    for (item, pair) in list.iter().enumerate() {
+        judge_pair(field, package, inverses, working, &mut lines, (item, *pair))?;
     }
     Ok(list.len())
 }
@@ -88,27 +88,28 @@ fn judge_sum<'a, F: Field>(
     Ok(())
 }
 
-/// Takes the lines of an overlap away from its difference, each side of which is divided by its leading coefficient.
+/// Takes the lines of a pair away from its difference, first × rest - left × second × right, each side of which is divided
+/// by its leading coefficient. An overlap has no right, and an inclusion no rest.
 #[inline(always)]
-fn judge_overlap<F: Field>(
+fn judge_pair<F: Field>(
     field: F,
     package: &Package,
     inverses: &[u32; 64],
     working: &mut Working,
     lines: &mut Lines,
-    (item, overlap): (usize, Overlap),
+    (item, pair): (usize, Pair),
 ) -> Result<(), Refusal> {
-    let (first, second) =
-        (package.basis_poly(overlap.first.into()), package.basis_poly(overlap.second.into()));
-    let shared = usize::from(overlap.shared);
+    let (first, second) = (package.basis_poly(pair.first.into()), package.basis_poly(pair.second.into()));
+    let (shared, at) = (usize::from(pair.shared), usize::from(pair.at));
     let mut behind = Frame::new([0; SHORT], 0, second.lead_from(shared), second.lead_len() - shared);
-    working.start(field, inverses[usize::from(overlap.first)], &mut behind, first);
-    let mut before = Frame::new(first.lead_from(0), first.lead_len() - shared, [0; SHORT], 0);
-    working.add(field, field.minus(inverses[usize::from(overlap.second)]), &mut before, second);
+    working.start(field, inverses[usize::from(pair.first)], &mut behind, first);
+    let (end, right) = (at + shared, first.lead_len() - at - shared);
+    let mut around = Frame::new(first.lead_from(0), at, first.lead_from(end), right);
+    working.add(field, field.minus(inverses[usize::from(pair.second)]), &mut around, second);
 
-    // The overlap word is left × second leading word, too.
-    let top_len = before.put(second.lead_from(0), second.lead_len());
-    let top = *before.word();
+    // The overlap word is left × second leading word × right, too.
+    let top_len = around.put(second.lead_from(0), second.lead_len());
+    let top = *around.word();
     while let Some(sum) = lines.next(2, item + 1) {
         let poly = package.basis_poly(sum.of.into());
         let mut frame = sum.frame(package.bytes);

@@ -1,4 +1,4 @@
-//! The leading words: refusals 8 and 9, and the index that finds the leftmost one in a word.
+//! The leading words: refusal 8, and the index that finds the leftmost one in a word.
 
 use crate::block::SHORT;
 use crate::field::Field;
@@ -25,15 +25,14 @@ impl Index {
         index
     }
 
-    /// The leftmost place of a leading word in a word, and which it is. No leading word stands inside another, so at
-    /// most one stands at a place, and a leading word without letters is the only one.
+    /// The leftmost place of a leading word in a word, and the lowest number of those that stand there. A leading word
+    /// without letters stands everywhere. Behind a word that is found only lower numbers are looked for.
     #[inline(always)]
     pub fn leftmost(&self, word: &[u8]) -> Option<(usize, usize)> {
-        if self.ends[0] != 0 {
-            return Some((0, self.ends[0].trailing_zeros() as usize));
-        }
+        let empty = self.ends[0];
         for begin in 0..word.len() {
-            let mut left = u64::MAX;
+            let mut found = empty;
+            let mut left = lower(empty);
             for ((row, end), letter) in self.rows.iter().zip(&self.ends[1..]).zip(&word[begin..]) {
                 left &= row[usize::from(letter & 31)];
                 if left == 0 {
@@ -41,26 +40,29 @@ impl Index {
                 }
                 let whole = left & end;
                 if whole != 0 {
-                    return Some((begin, whole.trailing_zeros() as usize));
+                    found = whole;
+                    left &= lower(whole);
                 }
             }
+            if found != 0 {
+                return Some((begin, found.trailing_zeros() as usize));
+            }
         }
-        None
+        (empty != 0).then_some((0, empty.trailing_zeros() as usize))
     }
 }
 
-/// 8 for all items, then 9 for all.
+/// The numbers below the lowest of some; all where there is none.
+#[inline(always)]
+fn lower(some: u64) -> u64 {
+    !some & some.wrapping_sub(1)
+}
+
+/// 8 for all items.
 pub fn judge_leads(package: &Package) -> Result<(), Refusal> {
     for g in 0..package.basis {
         if package.basis_poly(g).lead_coef().is_none() {
             return refuse(8, g + 1);
-        }
-    }
-    let mut room = [&[][..]; 64];
-    let leads = leads(package, &mut room);
-    for (g, lead) in leads.iter().enumerate() {
-        if leads.iter().enumerate().any(|(h, inner)| g != h && holds(lead, inner)) {
-            return refuse(9, g + 1);
         }
     }
     Ok(())
@@ -83,16 +85,4 @@ pub fn leads<'r, 'a>(package: &'a Package, room: &'r mut [&'a [u8]; 64]) -> &'r 
         *lead = package.basis_poly(g).lead();
     }
     leads
-}
-
-/// Whether a word stands inside another.
-#[inline(always)]
-fn holds(word: &[u8], inner: &[u8]) -> bool {
-    if word.len() < inner.len() {
-        return false;
-    }
-    let Some((&first, rest)) = inner.split_first() else {
-        return true;
-    };
-    (0..=word.len() - inner.len()).any(|at| word[at] == first && word[at + 1..].starts_with(rest))
 }

@@ -5,8 +5,8 @@ use crate::check::judge_sums;
 use crate::field::{Byte, Field, Prime};
 use crate::formula::{read_formula, text_len, write_text};
 use crate::leads::{inverses, judge_leads, Index};
-use crate::overlaps::{list_len, overlaps, write_list};
 use crate::package::Package;
+use crate::pairs::{list_len, pairs, write_list};
 use crate::steps::run;
 use crate::terms::{Poly, Terms};
 use crate::working::Working;
@@ -17,7 +17,7 @@ use crate::{refuse, Refusal};
 pub struct Answer {
     pub number: u64,
     pub place: u64,
-    /// Overlaps for check and listing, steps for short form and membership.
+    /// Pairs for check and listing, steps for short form and membership.
     pub count: u64,
     /// Bytes written, or 1 for a member.
     pub last: u64,
@@ -34,7 +34,7 @@ impl Answer {
     }
 }
 
-/// Check: overlaps.
+/// Check: pairs.
 #[inline(never)]
 pub fn check(bytes: &[u8]) -> Answer {
     let mut package = Package::new(bytes);
@@ -42,7 +42,7 @@ pub fn check(bytes: &[u8]) -> Answer {
     Answer::of(accept(&mut package, &mut working).map(|count| (count as u64, 0)))
 }
 
-/// Listing: overlaps and bytes written.
+/// Listing: pairs and bytes written.
 #[inline(never)]
 pub fn list_overlaps(bytes: &[u8], out: &mut [u8]) -> Answer {
     let mut package = Package::new(bytes);
@@ -91,7 +91,7 @@ fn judge<F: Field>(field: F, package: &Package, working: &mut Working) -> Result
 fn list(package: &mut Package, out: &mut [u8]) -> Result<(u64, u64), Refusal> {
     package.read()?;
     judge_leads(package)?;
-    let list = overlaps(package);
+    let list = pairs(package);
     let needed = list_len(package, &list);
     if out.len() < needed {
         return refuse(19, needed);

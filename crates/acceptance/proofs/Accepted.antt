@@ -1,7 +1,7 @@
 -- A package of which the facts of acceptance hold has an accepted basis: certified, with sums both ways between it and the relations.
-use mathlib.Core.Path.{_≡_, refl, sym, _∙_, ap, subst}
+use mathlib.Core.Path.{_≡_, refl, sym, ap, subst}
 use mathlib.Core.Bool.{Bool, true, false}
-use mathlib.Core.Logic.{_≢_, _⊎_, inl, inr}
+use mathlib.Core.Logic.{_⊎_, inl, inr}
 use mathlib.Core.List.{List, [], _∷_, List·Memᴰ, List·Memᴰ·head, List·Memᴰ·tail}
 use Prim.Native.Nat.{ℕ, zero, suc, _<_}
 use native.Mathlib.Omega.{arith}
@@ -10,19 +10,17 @@ use lib.ListN.{length, getD}
 use Rattle.field.specs.Field.{Operations, Field}
 use Rattle.lists.specs.All.{All, done, _also_}
 use Rattle.words.specs.Order.{Order, Admissible}
-use Rattle.words.specs.Place.{Stands}
 use Rattle.algebra.specs.Poly.{Poly}
 use Rattle.algebra.specs.Written.{Written}
 use Rattle.algebra.specs.Ideal.{Family, family, Line, Over, InIdeal}
-use Rattle.algebra.specs.Groebner.{lead, Led}
+use Rattle.algebra.specs.Groebner.{Led}
 use Rattle.algebra.specs.Short.{Accepted}
 use Rattle.algebra.proofs.Sums.{ideal-zero}
-use Rattle.algebra.proofs.Leading.{led-ne-nil}
 use Rattle.algebra.proofs.WrittenForm.{written-led}
 use Rattle.working.proofs.Families.{family-written}
-use Rattle.overlaps.specs.Overlaps.{Overlap, Overlapping, leads, overlaps}
-use Rattle.overlaps.proofs.Listed.{listed-iff}
-use Rattle.overlaps.proofs.Certification.{lead-of, Certifies, overlaps-resolved, inclusions-none}
+use Rattle.overlaps.specs.Pairs.{Pair}
+use Rattle.overlaps.specs.Overlaps.{leads, overlaps}
+use Rattle.overlaps.proofs.Certification.{Certifies, certified}
 use Rattle.package.specs.Names.{sumB, sumG, sumO}
 use Rattle.package.specs.Sums.{SumLine}
 use Rattle.acceptance.specs.Content.{lineOf, sumOf, linesOf}
@@ -67,24 +65,11 @@ module _ {L : ℕ → Type 0} {K : Operations} (F : Field K) {O : Order} (A : Ad
   pub basis-leads : (i : ℕ) → (family ps i ≡ []) ⊎ Led K O (family ps i)
   basis-leads i = written-led F A (family ps i) (family-written K O ps wp i)
 
-  -- a polynomial that leads is one of the list
-  named : (i : ℕ) → Led K O (family ps i) → (m : ℕ) × (i ≡ suc m) × (m < length ps)
-  named i l = go (in-range ps i)
+  -- each pair of the list is certified by its O lines
+  certifies : (o : Pair) → List·Memᴰ o (overlaps (leads ps)) → Certifies F A (family ps) o
+  certifies o m = go (member-at (record { first = 0; second = 0; shared = 0; at = 0 }) m)
     where
-      go : ((m : ℕ) × (i ≡ suc m) × (m < length ps)) ⊎ (family ps i ≡ []) → (m : ℕ) × (i ≡ suc m) × (m < length ps)
-      go (inl x) = x
-      go (inr e) = absurd (led-ne-nil l e)
-
-  none-inside : (i j k : ℕ) → Led K O (family ps i) → Led K O (family ps j) → i ≢ j → Stands (lead (family ps j)) (lead (family ps i)) k → ⊥
-  none-inside i j k li lj n s =
-      let (m, e, b) = named i li in
-      let (o, f, c) = named j lj in
-      h .apart m o k b c (λ x. n (e ∙ ap suc x ∙ sym f)) (rw (f, e, family-suc ps m, family-suc ps o) at s)
-
-  certifies : (o : Overlap) → Overlapping (lead (family ps (o .first))) (lead (family ps (o .second))) (o .shared) → Certifies F A (family ps) o
-  certifies o v = go (member-at (record { first = 0; second = 0; shared = 0 }) (listed-iff (leads ps) o .1 (rw (lead-of ps (o .first), lead-of ps (o .second)) v)))
-    where
-      go : (i : ℕ) × (i < length (overlaps (leads ps))) × (getD (overlaps (leads ps)) i (record { first = 0; second = 0; shared = 0 }) ≡ o) → Certifies F A (family ps) o
+      go : (i : ℕ) × (i < length (overlaps (leads ps))) × (getD (overlaps (leads ps)) i (record { first = 0; second = 0; shared = 0; at = 0 }) ≡ o) → Certifies F A (family ps) o
       go (i, l, e) = subst (Certifies F A (family ps)) e (record {
         lines = linesOf (sumOf sumO (suc i) ss);
         below = h .overlap-below i l;
@@ -101,11 +86,7 @@ module _ {L : ℕ → Type 0} {K : Operations} (F : Field K) {O : Order} (A : Ad
 
   pub accepted : Accepted L K O (family rs) (family ps)
   accepted = record {
-    certified = record {
-      leads = basis-leads;
-      overlaps = overlaps-resolved F A (family ps) certifies;
-      inclusions = inclusions-none F A (family ps) none-inside;
-    };
+    certified = certified F A ps basis-leads certifies;
     basis-sums = sums (family rs) ps sumB (h .basis-sums);
     relation-sums = sums (family ps) rs sumG (h .relation-sums);
   }

@@ -12,29 +12,29 @@ use Rattle.words.specs.Order.{Order, Admissible}
 use Rattle.algebra.specs.Poly.{Poly}
 use Rattle.algebra.specs.Written.{Written}
 use Rattle.algebra.specs.Ideal.{family}
-use Rattle.overlaps.specs.Overlaps.{Overlap, leads, overlaps}
-use Rattle.overlaps.proofs.Certification.{lead-of}
+use Rattle.overlaps.specs.Pairs.{Pair}
+use Rattle.overlaps.specs.Overlaps.{leads, overlaps}
 use Rattle.package.specs.Names.{sumB, sumG}
 use Rattle.package.specs.Sums.{SumLine}
 use Rattle.acceptance.specs.Content.{sumOf, linesOf}
-use Rattle.acceptance.specs.Check.{Verdict, fine, thenJudge, zerosJudged, apartJudged, sides, kindsJudged, itemsJudged, overlapsJudged, basisJudged, sumsVerdict}
+use Rattle.acceptance.specs.Check.{Verdict, fine, thenJudge, zerosJudged, sides, kindsJudged, itemsJudged, overlapsJudged, basisJudged, sumsVerdict}
 use Rattle.acceptance.specs.Facts.{SumHolds, Facts}
 use Rattle.acceptance.proofs.Verdicts.{then-iff}
-use Rattle.acceptance.proofs.BasisFacts.{zeros-to, zeros-from, Apart, apart-to, apart-from, leads-length}
+use Rattle.acceptance.proofs.FirstZero.{zeros-to, zeros-from}
 use Rattle.acceptance.proofs.SumFacts.{SideHolds, kinds-iff, items-to, items-from, Certifies, nothing, overlaps-to, overlaps-from}
 
 module _ {K : Operations} (F : Field K) {O : Order} (A : Admissible O) where
-  -- 8 to 15 are not met exactly if the facts hold of relations and basis in written form
+  -- 8 and 10 to 15 are not met exactly if the facts hold of relations and basis in written form
   pub facts-iff : (rs ps : List Poly) (ss : List SumLine) → All (Written K O) rs → All (Written K O) ps
       → (thenJudge (basisJudged ps) (sumsVerdict K O rs ps ss) ≡ fine) ↔ Facts K O rs ps ss
-  unfolding basisJudged sumsVerdict Certifies Apart nothing family
+  unfolding basisJudged sumsVerdict Certifies nothing family
   facts-iff rs ps ss wr wp = (to, from)
     where
-      os : List Overlap
+      os : List Pair
       os = overlaps (leads ps)
 
       v1 : Verdict
-      v1 = thenJudge (zerosJudged ps 1) (apartJudged (leads ps) (leads ps) 1)
+      v1 = zerosJudged ps 1
 
       v2 : Verdict
       v2 = kindsJudged K O ss (sides rs ps)
@@ -55,15 +55,12 @@ module _ {K : Operations} (F : Field K) {O : Order} (A : Admissible O) where
 
       to : thenJudge v1 (thenJudge v2 (thenJudge v3 v4)) ≡ fine → Facts K O rs ps ss
       to e =
-          let (a, b) = then-iff v1 (thenJudge v2 (thenJudge v3 v4)) .0 e in
-          let (c, d) = then-iff (zerosJudged ps 1) (apartJudged (leads ps) (leads ps) 1) .0 a in
+          let (c, b) = then-iff v1 (thenJudge v2 (thenJudge v3 v4)) .0 e in
           let (f, g) = then-iff v2 (thenJudge v3 v4) .0 b in
           let (h, i) = then-iff v3 v4 .0 g in
           let (p, q) = both (kinds-iff F A ss (sides rs ps) targets .0 f) in
-          let n = leads-length ps in
           record {
             nonzero = zeros-to ps 1 c;
-            apart = λ x y z l m ne s. apart-to (leads ps) (leads ps) 1 d x (omega arith) y z (omega arith) (λ q. ne (omega arith)) (rw (lead-of ps (suc y), lead-of ps (suc x)) s);
             basis-sums = p;
             relation-sums = q;
             items = items-to (length os) ss h;
@@ -73,10 +70,8 @@ module _ {K : Operations} (F : Field K) {O : Order} (A : Admissible O) where
 
       from : Facts K O rs ps ss → thenJudge v1 (thenJudge v2 (thenJudge v3 v4)) ≡ fine
       from h =
-          let n = leads-length ps in
-          let d = apart-from (leads ps) (leads ps) 1 (λ x l y z m ne s. h .apart x y z (omega arith) (omega arith) (λ q. ne (omega arith)) (rw (← lead-of ps (suc y), ← lead-of ps (suc x)) s)) in
           then-iff v1 (thenJudge v2 (thenJudge v3 v4)) .1 (
-            then-iff (zerosJudged ps 1) (apartJudged (leads ps) (leads ps) 1) .1 (zeros-from ps 1 (h .nonzero), d),
+            zeros-from ps 1 (h .nonzero),
             then-iff v2 (thenJudge v3 v4) .1 (
               kinds-iff F A ss (sides rs ps) targets .1 (h .basis-sums also (h .relation-sums also done)),
               then-iff v3 v4 .1 (

@@ -1,16 +1,34 @@
--- 8 is given exactly with the number of the first polynomial that is zero.
+-- 8: none is refused exactly if no polynomial is zero, and 8 is given exactly with the number of the first that is.
 use mathlib.Core.Path.{_≡_, refl, sym, _∙_, ap}
 use mathlib.Core.Logic.{_≢_, _⊎_, inl, inr}
 use mathlib.Core.List.{List, [], _∷_, cons≢nil}
 use Prim.Native.Nat.{ℕ, zero, suc, _+_, _-_, _≤_, _<_}
 use native.Mathlib.Decide.{decLt}
 use native.Mathlib.Omega.{arith}
+use Rattle.lists.specs.All.{All, done, _also_}
 use Rattle.lists.proofs.Every.{all-at}
 use Rattle.algebra.specs.Poly.{Term, Poly}
 use Rattle.algebra.specs.Ideal.{family}
-use Rattle.acceptance.specs.Check.{Verdict, refusal, fine, zerosJudged}
+use Rattle.acceptance.specs.Check.{Verdict, refusal, fine, zerosJudged, basisJudged}
 use Rattle.acceptance.specs.ZeroBasis.{FirstZero}
-use Rattle.acceptance.proofs.BasisFacts.{zeros-to}
+use Rattle.acceptance.proofs.Verdicts.{refusal-not-fine}
+
+pub zeros-to : (ps : List Poly) (i : ℕ) → zerosJudged ps i ≡ fine → All (λ f. f ≢ []) ps
+unfolding zerosJudged
+zeros-to [] i e = done
+zeros-to ([] ∷ ps) i e = absurd (refusal-not-fine e)
+zeros-to ((t ∷ f) ∷ ps) i e = cons≢nil also zeros-to ps (suc i) e
+
+pub zeros-from : (ps : List Poly) (i : ℕ) → All (λ f. f ≢ []) ps → zerosJudged ps i ≡ fine
+unfolding zerosJudged
+zeros-from [] i done = refl
+zeros-from ([] ∷ ps) i (h also hs) = absurd (h refl)
+zeros-from ((t ∷ f) ∷ ps) i (h also hs) = zeros-from ps (suc i) hs
+
+-- a basis that is judged fine has no zero polynomial
+pub fine-nonzero : (ps : List Poly) → basisJudged ps ≡ fine → All (λ f. f ≢ []) ps
+unfolding basisJudged
+fine-nonzero ps e = zeros-to ps 1 e
 
 -- the first zero of a list, behind one polynomial that is not zero
 behind : (t : Term) (f : Poly) (ps : List Poly) (i : ℕ) → FirstZero ps i → FirstZero ((t ∷ f) ∷ ps) (suc i)

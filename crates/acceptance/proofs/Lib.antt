@@ -1,7 +1,6 @@
 -- That the check answers no refusal exactly where the facts of acceptance hold.
 pub mod Verdicts
 pub mod Remaining
-pub mod BasisFacts
 pub mod FirstZero
 pub mod SumFacts
 pub mod LinesTaken

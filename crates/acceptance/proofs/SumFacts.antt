@@ -1,4 +1,4 @@
--- 10 to 15: the sums of each kind hold, no O item is above the overlap count, and the sums of the overlaps hold with every line below its overlap word.
+-- 10 to 15: the sums of each kind hold, no O item is above the count of pairs, and the sums of the pairs hold with every line below its overlap word.
 use mathlib.Core.Path.{_≡_, refl, sym, _∙_}
 use mathlib.Core.Bool.{Bool, true, false, true≢false}
 use mathlib.Core.Logic.{_↔_}
@@ -24,7 +24,8 @@ use Rattle.algebra.specs.Ideal.{Family, family, Line, value}
 use Rattle.algebra.specs.Groebner.{top}
 use Rattle.algebra.proofs.Coefficients.{coeff-sub}
 use Rattle.algebra.proofs.Insertion.{written-coeff, written-written}
-use Rattle.overlaps.specs.Overlaps.{Overlap, overlapWord, difference}
+use Rattle.overlaps.specs.Pairs.{Pair}
+use Rattle.overlaps.specs.Overlaps.{overlapWord, difference}
 use Rattle.package.specs.Names.{sumO}
 use Rattle.package.specs.Sums.{SumLine}
 use Rattle.acceptance.specs.Content.{sumOf, linesOf}
@@ -33,7 +34,7 @@ use Rattle.acceptance.specs.Facts.{SumHolds}
 use Rattle.acceptance.proofs.Verdicts.{refusal-not-fine, then-iff}
 use Rattle.acceptance.proofs.Remaining.{sum-iff}
 
--- 15: no O item is above the overlap count
+-- 15: no O item is above the count of pairs
 pub items-to : (count : ℕ) (ss : List SumLine) → itemsJudged count ss ≡ fine → All (λ s. s .kind ≡ sumO → s .item ≤ count) ss
 unfolding itemsJudged
 items-to count [] e = done
@@ -130,7 +131,7 @@ module _ {K : Operations} (F : Field K) {O : Order} (A : Admissible O) where
             coeff-sub F (written K O f) (value K G (b ++ (x ∷ []))) w
             ∙ rw (written-coeff F A f w) (sym (coeff-sub F f (value K G (b ++ (x ∷ []))) w))
 
-    -- the test of an overlap's lines
+    -- the test of a pair's lines
     under-iff : (m : Word) (x : Line) → (isUnder O G m x ≡ true) ↔ Lt O (top G x) m
     unfolding isUnder
     under-iff m x = (to (O (top G x) m), λ e. rw (isUnder, e))
@@ -140,11 +141,11 @@ module _ {K : Operations} (F : Field K) {O : Order} (A : Admissible O) where
         to Equal e = absurd (true≢false (sym e))
         to Above e = absurd (true≢false (sym e))
 
-    -- one overlap: its lines are below its word, and their sum is its difference
-    unfoldable pub Certifies : Overlap → List Line → Type 0
+    -- one pair: its lines are below its word, and their sum is its difference
+    unfoldable pub Certifies : Pair → List Line → Type 0
     Certifies o xs = All (λ x. Lt O (top G x) (overlapWord G o)) xs × SumHolds K O G (difference K G o) xs
 
-    overlap-iff : (i : ℕ) (o : Overlap) (ss : List SumLine)
+    overlap-iff : (i : ℕ) (o : Pair) (ss : List SumLine)
         → (sumVerdict 13 i (less (isUnder O G (overlapWord G o)) K O G (written K O (difference K G o)) ss) ≡ fine) ↔ Certifies o (linesOf ss)
     unfolding Certifies
     overlap-iff i o ss = (
@@ -162,11 +163,11 @@ module _ {K : Operations} (F : Field K) {O : Order} (A : Admissible O) where
             ↔ (All (λ x. isUnder O G (overlapWord G o) x ≡ true) (linesOf ss) × SumHolds K O G (written K O (difference K G o)) (linesOf ss))
         its = sum-iff F A G (isUnder O G (overlapWord G o)) 13 i (written K O (difference K G o)) ss (written-written F A (difference K G o))
 
-    -- the overlaps, numbered from i on
-    unfoldable pub nothing : Overlap
-    nothing = record { first = 0; second = 0; shared = 0 }
+    -- the pairs, numbered from i on
+    unfoldable pub nothing : Pair
+    nothing = record { first = 0; second = 0; shared = 0; at = 0 }
 
-    pub overlaps-to : (ss : List SumLine) (os : List Overlap) (i : ℕ) → overlapsJudged K O G ss os i ≡ fine
+    pub overlaps-to : (ss : List SumLine) (os : List Pair) (i : ℕ) → overlapsJudged K O G ss os i ≡ fine
         → (m : ℕ) → m < length os → Certifies (getD os m nothing) (linesOf (sumOf sumO (i + m) ss))
     unfolding overlapsJudged
     overlaps-to ss [] i e = λ m h. absurd (omega arith)
@@ -179,7 +180,7 @@ module _ {K : Operations} (F : Field K) {O : Order} (A : Admissible O) where
         go p q zero h = rw (add-zero i) p
         go p q (suc m) h = let x : i + suc m ≡ suc i + m = omega arith in rw x (q m (omega arith))
 
-    pub overlaps-from : (ss : List SumLine) (os : List Overlap) (i : ℕ)
+    pub overlaps-from : (ss : List SumLine) (os : List Pair) (i : ℕ)
         → ((m : ℕ) → m < length os → Certifies (getD os m nothing) (linesOf (sumOf sumO (i + m) ss))) → overlapsJudged K O G ss os i ≡ fine
     unfolding overlapsJudged
     overlaps-from ss [] i h = refl

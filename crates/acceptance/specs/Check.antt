@@ -1,4 +1,4 @@
--- The check: the first refusal of 8 to 15 in document 01's order, or none.
+-- The check: the first refusal of 8 and 10 to 15 in document 01's order, or none. (Document 02, P2: 9 is no longer met.)
 use mathlib.Core.Bool.{Bool, true, false}
 use mathlib.Core.List.{List, [], _∷_}
 use Prim.Native.Nat.{ℕ, suc}
@@ -6,16 +6,14 @@ use lib.Dec.{eqb, ltb}
 use lib.ListN.{length}
 use Rattle.field.specs.Field.{Operations, fieldOf}
 use Rattle.words.specs.declared.Comparison.the-variants.{Below, Equal, Above}
-use Rattle.words.specs.declared.Found.the-variants.{At, Nowhere}
 use Rattle.words.specs.Word.{Word}
 use Rattle.words.specs.Order.{Order, wordOrder}
-use Rattle.words.specs.Place.{leftmost}
 use Rattle.algebra.specs.Poly.{Poly}
 use Rattle.algebra.specs.Written.{written}
 use Rattle.algebra.specs.Ideal.{Family, family, Line}
 use Rattle.algebra.specs.Groebner.{top}
 use Rattle.algebra.specs.Steps.{takeAway}
-use Rattle.overlaps.specs.Overlaps as O
+use Rattle.overlaps.specs.Pairs.{Pair}
 use Rattle.overlaps.specs.Overlaps.{leads, overlaps, overlapWord, difference}
 use Rattle.package.specs.Names.{sumB, sumG, sumO}
 use Rattle.package.specs.Sums.{SumLine}
@@ -37,21 +35,6 @@ unfoldable pub zerosJudged : List Poly → ℕ → Verdict
 zerosJudged [] i = fine
 zerosJudged ([] ∷ ps) i = refusal 8 i
 zerosJudged ((t ∷ f) ∷ ps) i = zerosJudged ps (suc i)
-
--- A word of the list, numbered from j on, that is not number i stands inside u.
-unfoldable pub holdsOther : Word → ℕ → List Word → ℕ → Bool
-unfolding leftmost
-holdsOther u i [] j = false
-holdsOther u i (v ∷ vs) j = elim (eqb i j) [
-  | true ↦ holdsOther u i vs (suc j)
-  | false ↦ elim (leftmost v u) [ At k ↦ true | Nowhere ↦ holdsOther u i vs (suc j) ]
-]
-
--- 9: the first leading word, numbered from i on, that holds another's.
-unfoldable pub apartJudged : List Word → List Word → ℕ → Verdict
-unfolding holdsOther
-apartJudged all [] i = fine
-apartJudged all (u ∷ us) i = elim (holdsOther u i all 1) [ true ↦ refusal 9 i | false ↦ apartJudged all us (suc i) ]
 
 -- What is left of a target when lines are taken away: a line fails the test before it, a line leaves over 512 terms, or the rest. A line goes by its number.
 pub data Left : Type 0 where
@@ -75,7 +58,7 @@ less test K O G f (s ∷ ss) = elim (test (lineOf s)) [
 unfoldable pub anyLine : Line → Bool
 anyLine x = true
 
--- The test of the O lines of an overlap with word m: left × leading word × right is strictly below m.
+-- The test of the O lines of a pair with overlap word m: left × leading word × right is strictly below m.
 unfoldable pub isUnder : Order → Family → Word → Line → Bool
 unfolding top
 isUnder O G m x = elim (O (top G x) m) [ Below ↦ true | Equal ↦ false | Above ↦ false ]
@@ -113,7 +96,7 @@ unfolding sumsJudged thenJudge family
 kindsJudged K O ss [] = fine
 kindsJudged K O ss (s ∷ more) = thenJudge (sumsJudged (s .number) (s .kind) K O (family (s .others)) ss (s .targets) 1) (kindsJudged K O ss more)
 
--- 15: the first O line whose item is above the overlap count.
+-- 15: the first O line whose item is above the count of overlaps and inclusions.
 unfoldable pub itemsJudged : ℕ → List SumLine → Verdict
 itemsJudged count [] = fine
 itemsJudged count (s ∷ ss) = elim (eqb (s .kind) sumO) [
@@ -121,8 +104,8 @@ itemsJudged count (s ∷ ss) = elim (eqb (s .kind) sumO) [
   | true ↦ elim (ltb count (s .item)) [ true ↦ refusal 15 (s .line) | false ↦ itemsJudged count ss ]
 ]
 
--- The overlaps, numbered from i on: in each line 14 before 10, and at an overlap's end 13.
-unfoldable pub overlapsJudged : Operations → Order → Family → List SumLine → List O.Overlap → ℕ → Verdict
+-- The overlaps and inclusions, numbered from i on: in each line 14 before 10, and at a pair's end 13.
+unfoldable pub overlapsJudged : Operations → Order → Family → List SumLine → List Pair → ℕ → Verdict
 unfolding sumVerdict less isUnder sumOf thenJudge written difference overlapWord
 overlapsJudged K O G ss [] i = fine
 overlapsJudged K O G ss (o ∷ os) i =
@@ -130,10 +113,10 @@ overlapsJudged K O G ss (o ∷ os) i =
     (sumVerdict 13 i (less (isUnder O G (overlapWord G o)) K O G (written K O (difference K G o)) (sumOf sumO i ss)))
     (overlapsJudged K O G ss os (suc i))
 
--- 8 for all items, then 9 for all: what listing judges too.
+-- 8 for all items: what listing judges too.
 unfoldable pub basisJudged : List Poly → Verdict
-unfolding zerosJudged apartJudged leads thenJudge
-basisJudged ps = thenJudge (zerosJudged ps 1) (apartJudged (leads ps) (leads ps) 1)
+unfolding zerosJudged
+basisJudged ps = zerosJudged ps 1
 
 -- The kinds of sums; then 15; then the overlaps.
 unfoldable pub sumsVerdict : Operations → Order → List Poly → List Poly → List SumLine → Verdict

@@ -1,30 +1,18 @@
--- What refusals 8 and 9 say of a basis, and what the answer on a basis tells.
-use mathlib.Core.Path.{_≡_, sym, ap, _∙_}
+-- What refusal 8 says of a basis, and what the answer on a basis tells.
+use mathlib.Core.Path.{_≡_, refl, sym, _∙_}
 use mathlib.Core.List.{List}
 use Prim.Native.Nat.{ℕ}
-use Rattle.words.specs.Word.{Word}
 use Rattle.algebra.specs.Poly.{Poly}
-use Rattle.overlaps.specs.Overlaps.{leads}
-use Rattle.acceptance.specs.Check.{Verdict, refusal, fine, thenJudge, zerosJudged, apartJudged, basisJudged}
+use Rattle.acceptance.specs.Check.{Verdict, refusal, fine, zerosJudged, basisJudged}
 use Rattle.basis.specs.declared.BasisAnswer.{BasisAnswer}
 use Rattle.basis.specs.declared.BasisAnswer.the-variants.{Unsound, Sound}
-use Rattle.basis.specs.Told.{told}
 use Rattle.basis.specs.Heads.{HeadsOf}
 use Rattle.basis.specs.Answer.{basisVerdict, HeadsWhere}
 
-module _ (ps : List Poly) where
-  -- 8 where a polynomial is zero
-  pub zero-judged : (k : ℕ) → refusal 8 k ≡ zerosJudged ps 1 → refusal 8 k ≡ basisJudged ps
-  unfolding basisJudged thenJudge
-  zero-judged k e = ap (λ (v : Verdict). thenJudge v (apartJudged (leads ps) (leads ps) 1)) e
-
-  -- then 9 where a leading word holds another, or nothing
-  pub apart-told : fine ≡ zerosJudged ps 1 → (ws : List Word) → ws ≡ leads ps → (k : ℕ) → told 9 k ≡ apartJudged ws ws 1 → told 9 k ≡ basisJudged ps
-  unfolding basisJudged thenJudge
-  apart-told e ws w k d =
-      d
-      ∙ ap (λ (us : List Word). apartJudged us us 1) w
-      ∙ ap (λ (v : Verdict). thenJudge v (apartJudged (leads ps) (leads ps) 1)) e
+-- What is judged of the polynomials is whether one is zero.
+pub zeros-judged : (ps : List Poly) → zerosJudged ps 1 ≡ basisJudged ps
+unfolding basisJudged
+zeros-judged ps = refl
 
 -- The verdict of an answer.
 module _ (r : BasisAnswer) (v : Verdict) (e : basisVerdict r ≡ v) where

@@ -1,4 +1,4 @@
--- What the polynomials of a basis and their leading words are judged, and where the leading words then lie.
+-- What the polynomials of a basis are judged, and where their leading words then lie.
 use mathlib.Core.List.{List}
 use Prim.Native.Nat.{ℕ}
 use Rattle.acceptance.specs.Check.{Verdict, refusal, fine}
@@ -6,7 +6,7 @@ use Rattle.basis.specs.Heads.{HeadsOf}
 use Rattle.basis.specs.declared.BasisAnswer.{BasisAnswer}
 use Rattle.basis.specs.declared.BasisAnswer.the-variants.{Unsound, Sound}
 
--- The verdict of the polynomials and their leading words.
+-- The verdict of the polynomials.
 unfoldable pub basisVerdict : BasisAnswer → Verdict
 basisVerdict (Unsound n k) = refusal n k
 basisVerdict Sound = fine

@@ -1,7 +1,6 @@
-// Refusals 8 and 9 for a basis.
+// Refusal 8 for a basis, and its leading words.
 
 use crate::BasisAnswer;
-use crate::holding::first_holding;
 ghost use mathlib.Core.Path.{_≡_};
 ghost use Prim.Native.Nat.{_≤_};
 ghost use lib.ListN.{length};
@@ -10,7 +9,7 @@ ghost use Rattle.acceptance.specs.Check.{basisJudged};
 ghost use Rattle.basis.specs.Lies.{BasisLies};
 ghost use Rattle.basis.specs.Answer.{basisVerdict, HeadsWhere};
 
-// 8 for all of count polynomials, then 9 for all; where the basis is sound, heads and headlens lay its leading words, else they are scratch.
+// 8 for all of count polynomials; where none is zero, heads and headlens lay their leading words, else they are scratch.
 pub fn judge_basis(
     coefs: &[u32],
     starts: &[u32],
@@ -40,13 +39,6 @@ pub fn judge_basis(
         heads[g] = starts[a] as usize;
         headlens[g] = lens[a] as usize;
         g += 1;
-    }
-    let k = first_holding(heads, headlens, bytes, count);
-    if k != 0 {
-        return BasisAnswer::Unsound {
-            number: 9,
-            place: k,
-        };
     }
     BasisAnswer::Sound
 }

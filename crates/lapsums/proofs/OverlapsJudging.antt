@@ -1,4 +1,4 @@
--- The sums of the overlaps, overlap by overlap and line by line: what is left to judge gives the verdict.
+-- The sums of the pairs, pair by pair and line by line: what is left to judge gives the verdict.
 use mathlib.Core.Path.{_≡_, refl, sym, ap, _∙_}
 use mathlib.Core.Bool.{Bool, true, false}
 use mathlib.Core.List.{List, [], _∷_}
@@ -14,11 +14,11 @@ use Rattle.algebra.specs.Poly.{Poly}
 use Rattle.algebra.specs.Ideal.{Family, Line, family}
 use Rattle.algebra.specs.Written.{written}
 use Rattle.algebra.specs.Steps.{takeAway}
-use Rattle.overlaps.specs.Overlaps.{Overlap, overlapWord, difference}
-use Rattle.overlaps.specs.Position.{overlapsAt, overlapOf, behind}
-use Rattle.overlapwords.specs.declared.OverlapAt.{OverlapAt}
-use Rattle.overlapwords.specs.OverlapPlaces.{cursorOf, seenOverlaps}
-use Rattle.overlapwords.proofs.OverlapWalk.{seen-one, seen-none, count-none}
+use Rattle.overlaps.specs.Pairs.{Pair}
+use Rattle.overlaps.specs.Overlaps.{overlapWord, difference}
+use Rattle.overlapsearch.specs.declared.PairAt.{PairAt}
+use Rattle.overlapsearch.specs.Position.{pairsAt, pairOf, behind, seenPairs}
+use Rattle.overlapsearch.proofs.SeenPairs.{seen-one, seen-none}
 use Rattle.package.specs.Names.{sumO}
 use Rattle.package.specs.Sums.{SumLine, ofs}
 use Rattle.acceptance.specs.Check.{Verdict, refusal, fine, isUnder, overlapsJudged, itemsJudged}
@@ -50,56 +50,56 @@ module _ (t bytes : List ℕ) (ws : List Word) (whole : Verdict) (total : ℕ) (
   abbrev G : Family
   G = family (basisIn t)
 
-  -- what the overlaps behind f, from number i + 2 on, are judged by the lines ss
-  abbrev laterOverlaps : List SumLine → OverlapAt → ℕ → Verdict
-  laterOverlaps ss f i = overlapsJudged K O G ss (overlapsAt ws (behind (cursorOf f))) (i + 1 + 1)
+  -- what the pairs behind f, from number i + 2 on, are judged by the lines ss
+  abbrev laterOverlaps : List SumLine → PairAt → ℕ → Verdict
+  laterOverlaps ss f i = overlapsJudged K O G ss (pairsAt ws (behind f)) (i + 1 + 1)
 
   -- the same with f, number i + 1, whose sum has come to g
-  abbrev fromLines : List SumLine → OverlapAt → ℕ → Poly → Verdict
+  abbrev fromLines : List SumLine → PairAt → ℕ → Poly → Verdict
   fromLines ss f i g =
-      itemThen 13 sumO (i + 1) (isUnder O G (overlapWord G (overlapOf (cursorOf f)))) K O G (λ (ss : List SumLine). laterOverlaps ss f i) ss g
+      itemThen 13 sumO (i + 1) (isUnder O G (overlapWord G (pairOf f))) K O G (λ (ss : List SumLine). laterOverlaps ss f i) ss g
 
-  -- The first i overlaps passed, f is the next, and s is the next line.
-  pub record OverlapsDone (at line i : ℕ) (f : OverlapAt) (s : SumAt) (answer : LapsAnswer) : Type 0 where
+  -- The first i pairs passed, f is the next, and s is the next line.
+  pub record OverlapsDone (at line i : ℕ) (f : PairAt) (s : SumAt) (answer : LapsAnswer) : Type 0 where
     pub next : NextLine (headIn t) sumO (i + 1) bytes at line s
-    pub same : overlapsJudged K O G (sumsAt bytes at line) (seenOverlaps ws f) (i + 1) ≡ whole
-    pub numbered : i + length (seenOverlaps ws f) ≡ total
+    pub same : overlapsJudged K O G (sumsAt bytes at line) (seenPairs ws f) (i + 1) ≡ whole
+    pub numbered : i + length (seenPairs ws f) ≡ total
     pub below : itemsJudged total (sumsAt bytes at line) ≡ items
     pub told : answer ≡ Through i (s .present)
 
-  -- In overlap f, number i + 1, lines were taken away, and g is left; s is the next line.
-  pub record LapDone (at line i : ℕ) (f : OverlapAt) (g : Poly) (s : SumAt) : Type 0 where
+  -- In pair f, number i + 1, lines were taken away, and g is left; s is the next line.
+  pub record LapDone (at line i : ℕ) (f : PairAt) (g : Poly) (s : SumAt) : Type 0 where
     pub next : NextLine (headIn t) sumO (i + 1) bytes at line s
     pub same : fromLines (sumsAt bytes at line) f i g ≡ whole
-    pub numbered : i + 1 + length (overlapsAt ws (behind (cursorOf f))) ≡ total
+    pub numbered : i + 1 + length (pairsAt ws (behind f)) ≡ total
     pub below : itemsJudged total (sumsAt bytes at line) ≡ items
 
-  pub overlaps-start : (at line : ℕ) (f : OverlapAt) (s : SumAt) → NextLine (headIn t) sumO 1 bytes at line s
-      → (os : List Overlap) → seenOverlaps ws f ≡ os → whole ≡ overlapsJudged K O G (sumsAt bytes at line) os 1 → total ≡ length os
+  pub overlaps-start : (at line : ℕ) (f : PairAt) (s : SumAt) → NextLine (headIn t) sumO 1 bytes at line s
+      → (os : List Pair) → seenPairs ws f ≡ os → whole ≡ overlapsJudged K O G (sumsAt bytes at line) os 1 → total ≡ length os
       → items ≡ itemsJudged total (sumsAt bytes at line) → OverlapsDone at line 0 f s (Through 0 (s .present))
   overlaps-start at line f s n os e v m i =
-      let size : length (seenOverlaps ws f) ≡ length os = ap length e in
+      let size : length (seenPairs ws f) ≡ length os = ap length e in
       record {
         next = n;
-        same = ap (λ (x : List Overlap). overlapsJudged K O G (sumsAt bytes at line) x 1) e ∙ sym v;
+        same = ap (λ (x : List Pair). overlapsJudged K O G (sumsAt bytes at line) x 1) e ∙ sym v;
         numbered = omega arith;
         below = sym i;
         told = refl;
       }
 
-  pub lap-start : (at line i : ℕ) (f : OverlapAt) (s : SumAt) (answer : LapsAnswer) → OverlapsDone at line i f s answer → f .present ≡ true
-      → (g : Poly) → g ≡ written K O (difference K G (overlapOf (cursorOf f))) → LapDone at line i f g s
+  pub lap-start : (at line i : ℕ) (f : PairAt) (s : SumAt) (answer : LapsAnswer) → OverlapsDone at line i f s answer → f .present ≡ true
+      → (g : Poly) → g ≡ written K O (difference K G (pairOf f)) → LapDone at line i f g s
   unfolding overlapsJudged
   lap-start at line i f s answer d p g e = record {
     next = d .next;
     same = rw (e, add-one (i + 1)) (rw (seen-one ws f p) at (d .same));
-    numbered = let z : i + suc (length (overlapsAt ws (behind (cursorOf f)))) ≡ total = rw (seen-one ws f p) at (d .numbered) in omega arith;
+    numbered = let z : i + suc (length (pairsAt ws (behind f))) ≡ total = rw (seen-one ws f p) at (d .numbered) in omega arith;
     below = d .below;
   }
 
-  module _ (at line i : ℕ) (f : OverlapAt) (g : Poly) (s : SumAt) (d : LapDone at line i f g s) where
+  module _ (at line i : ℕ) (f : PairAt) (g : Poly) (s : SumAt) (d : LapDone at line i f g s) where
     abbrev test : Line → Bool
-    test = isUnder O G (overlapWord G (overlapOf (cursorOf f)))
+    test = isUnder O G (overlapWord G (pairOf f))
 
     abbrev later : List SumLine → Verdict
     later ss = laterOverlaps ss f i
@@ -127,7 +127,7 @@ module _ (t bytes : List ℕ) (ws : List Word) (whole : Verdict) (total : ℕ) (
       -- the test and the polynomial without the line, of packed words
       module _ (z : Sizes) (left right : List ℕ) (l : ShortWord t (part bytes (s .left) (s .leftlen)) (z .left) left)
           (r : ShortWord t (part bytes (s .right) (s .rightlen)) (z .right) right) where
-        pub line-tested : (m : Word) → m ≡ overlapWord G (overlapOf (cursorOf f)) → (b : Bool)
+        pub line-tested : (m : Word) → m ≡ overlapWord G (pairOf f) → (b : Bool)
             → ((y : ℕ) → b ≡ isUnder O G m (lineOf t y (z .left) left (s .of) (z .right) right)) → (a : Bool) → b ≡ a
             → test (takenLine bytes s) ≡ a
         line-tested m q b h a e =
@@ -156,7 +156,7 @@ module _ (t bytes : List ℕ) (ws : List Word) (whole : Verdict) (total : ℕ) (
             let k = its-kind (headIn t) sumO (i + 1) bytes at line s (d .next) p .1 in
             let low : itemsJudged total (x ∷ ss) ≡ itemsJudged total ss = items-later total x ss (above-low total (s .kind) (s .item) (omega arith)) in
             let skip : later (x ∷ ss) ≡ later ss =
-            overlaps-skip K O G x ss (overlapsAt ws (behind (cursorOf f))) (i + 1 + 1) (λ r. omega arith) in
+            overlaps-skip K O G x ss (pairsAt ws (behind f)) (i + 1 + 1) (λ r. omega arith) in
             record {
               next = next-line (headIn t) sumO (i + 1) bytes (s .next) (line + 1) s′
                   (next-reached (headIn t) sumO (i + 1) bytes at line s (d .next) p) y u;
@@ -169,7 +169,7 @@ module _ (t bytes : List ℕ) (ws : List Word) (whole : Verdict) (total : ℕ) (
       pub lap-wrong : (n : ℕ) → length g ≡ n → 0 < n → refusal 13 (i + 1) ≡ whole
       lap-wrong n size z = item-wrong 13 sumO (i + 1) test K O G later whole (headIn t) bytes at line s (d .next) g (d .same) p (omega arith)
 
-      pub lap-end : (n : ℕ) → length g ≡ n → n ≤ 0 → (f′ : OverlapAt) → seenOverlaps ws f′ ≡ overlapsAt ws (behind (cursorOf f))
+      pub lap-end : (n : ℕ) → length g ≡ n → n ≤ 0 → (f′ : PairAt) → seenPairs ws f′ ≡ pairsAt ws (behind f)
           → OverlapsDone at line (i + 1) f′ s (Through (i + 1) (s .present))
       lap-end n size z f′ y = record {
         next = next-item (headIn t) sumO (i + 1) bytes at line s (d .next) p;
@@ -179,12 +179,15 @@ module _ (t bytes : List ℕ) (ws : List Word) (whole : Verdict) (total : ℕ) (
         told = refl;
       }
 
-  -- No overlap is left: the verdict, and where no line is left over none gives 15.
-  pub overlaps-end : (at line i : ℕ) (f : OverlapAt) (s : SumAt) (answer : LapsAnswer) → OverlapsDone at line i f s answer → f .present ≡ false
+  -- No pair is left: the verdict, and where no line is left over none gives 15.
+  pub overlaps-end : (at line i : ℕ) (f : PairAt) (s : SumAt) (answer : LapsAnswer) → OverlapsDone at line i f s answer → f .present ≡ false
       → (ss : List SumLine) → items ≡ itemsJudged total ss → (lapsVerdictOf answer ≡ whole) × LapsBehind total ss answer
   unfolding overlapsJudged lapsVerdictOf LapsBehind itemsJudged heldFrom
   overlaps-end at line i f s answer d p ss q =
-      rw (d .told) (rw (seen-none ws f p) at (d .same), (count-none ws f i total p (d .numbered), clear))
+      rw (d .told) (rw (seen-none ws f p) at (d .same), (count, clear))
     where
+      count : i ≡ total
+      count = let n = d .numbered in omega (arith, ap length (seen-none ws f p))
+
       clear : s .present ≡ false → itemsJudged total ss ≡ fine
       clear e = let z : sumsAt bytes at line ≡ [] = sym (d .next .held) ∙ rw (heldFrom, e) in sym q ∙ sym (d .below) ∙ ap (itemsJudged total) z

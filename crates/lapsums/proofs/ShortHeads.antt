@@ -6,7 +6,7 @@ use native.Mathlib.Omega.{arith}
 use lib.ListN.{length}
 use Rattle.words.specs.Laid.{laidWord}
 use Rattle.words.proofs.LaidWords.{laid-word-length}
-use Rattle.overlaps.specs.Position.{AtMost24}
+use Rattle.overlapsearch.specs.Position.{AtMost24}
 use Rattle.table.specs.Table.{gensIn, basisCountIn, firstIn, sizeIn}
 use Rattle.table.specs.Tabled.{Tabled}
 use Rattle.table.proofs.LeadingTerms.{lead-term}

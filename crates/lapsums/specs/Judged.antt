@@ -1,4 +1,4 @@
--- What the answer on all overlaps says.
+-- What the answer on all pairs says.
 use mathlib.Core.Path.{_≡_}
 use mathlib.Core.Bool.{false}
 use mathlib.Core.List.{List}
@@ -13,7 +13,7 @@ unfoldable pub lapsVerdictOf : LapsAnswer → Verdict
 lapsVerdictOf (Stopped n k) = refusal n k
 lapsVerdictOf (Through count left) = fine
 
--- It counts the n overlaps, and where no line is left over none of the lines ss gives 15.
+-- It counts the n pairs, and where no line is left over none of the lines ss gives 15.
 unfoldable pub LapsBehind : ℕ → List SumLine → LapsAnswer → Type 0
 LapsBehind n ss (Stopped k p) = Unit {0}
 LapsBehind n ss (Through count left) = (count ≡ n) × (left ≡ false → itemsJudged n ss ≡ fine)

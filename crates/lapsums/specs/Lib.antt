@@ -1,3 +1,3 @@
--- What contracts cite of the sums of the overlaps.
+-- What contracts cite of the sums of the pairs.
 pub mod Judged
 pub mod Answer

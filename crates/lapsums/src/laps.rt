@@ -1,9 +1,9 @@
-// Refusal 15, and then the sums of the overlaps.
+// Refusal 15, and then the sums of the overlaps and inclusions.
 
 use crate::Checked;
 use crate::LapsAnswer;
 use crate::overlap_sums::judge_overlaps;
-use overlapwords::overlap_at::count_overlaps;
+use overlapsearch::walking::count_pairs;
 use sumlines::item_lines::judge_items;
 use table::Table;
 use table::numbers::basis_in;
@@ -26,7 +26,7 @@ ghost use Rattle.tablesums.specs.Leading.{HeadsIn};
 ghost use Rattle.tablesums.specs.Heading.{headIn};
 ghost use Rattle.lapsums.specs.Answer.{answerOf};
 
-// The number of the first O line, from the place at on, whose item is above the overlap count, or 0. The line there has the number `line`.
+// The number of the first O line, from the place at on, whose item is above the count of pairs, or 0. The line there has the number `line`.
 fn first_above(
     t: &Table,
     heads: &[usize],
@@ -42,13 +42,13 @@ fn first_above(
         ⌝ }
 {
     let n = basis_in(t);
-    let count = count_overlaps(heads, headlens, bytes, n);
+    let count = count_pairs(heads, headlens, bytes, n);
     judge_items(bytes, at, line, count)
 }
 
-// 15, then the sums of the overlaps: the lines of kind O stand from the place at on, where the line has the number `line`. 15 comes first, and is
-// looked for only where the sums are refused or a line is left over: else each line belonged to an overlap. c, l, w and o are
-// scratch, and have their room afterwards.
+// 15, then the sums of the pairs: the lines of kind O stand from the place at on, where the line has the number `line`. 15 comes first, and is
+// looked for only where the sums are refused or a line is left over: else each line belonged to a pair. c, l, w and o are scratch, and have
+// their room afterwards.
 pub fn judge_laps(
     t: &Table,
     heads: &[usize],

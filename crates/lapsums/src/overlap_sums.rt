@@ -1,10 +1,10 @@
-// Refusals 14, 10 and 13: the sums of the overlaps, one after the other.
+// Refusals 14, 10 and 13: the sums of the overlaps and inclusions, one after the other.
 
 use crate::LapsAnswer;
 use crate::beginning::start_lap;
 use itemadding::taking::take_item;
-use overlapwords::overlap_at::first_overlap;
-use overlapwords::overlap_at::overlap_behind;
+use overlapsearch::walking::first_pair;
+use overlapsearch::walking::pair_behind;
 use package::SUM_O;
 use sumlines::sum_line::is_item;
 use sumlines::sum_line::line_at;
@@ -30,8 +30,8 @@ ghost use Rattle.tablesums.specs.Leading.{HeadsIn};
 ghost use Rattle.tablesums.specs.Heading.{headIn};
 ghost use Rattle.lapsums.specs.Judged.{lapsVerdictOf, LapsBehind};
 
-// The sums of all overlaps of the basis, whose leading words lie in the bytes: their lines stand from the place from on, where the line has the
-// number first. The overlaps are counted on the way; where no line is left over behind the last, each line belonged to one of them.
+// The sums of all pairs of the basis, whose leading words lie in the bytes: their lines stand from the place from on, where the line has the
+// number first. The pairs are counted on the way; where no line is left over behind the last, each line belonged to one of them.
 // c, l, w and o are scratch, and have their room afterwards.
 pub fn judge_overlaps(
     t: &Table,
@@ -70,7 +70,7 @@ pub fn judge_overlaps(
         count: 0,
         left: s.present,
     };
-    let mut f = first_overlap(heads, headlens, bytes, count);
+    let mut f = first_pair(heads, headlens, bytes, count);
     'items: while f.present {
         let item = i + 1;
         let x = start_lap(t, f, &mut lap, c, l, w, o);
@@ -112,7 +112,7 @@ pub fn judge_overlaps(
             count: item,
             left: s.present,
         };
-        f = overlap_behind(heads, headlens, bytes, count, f);
+        f = pair_behind(heads, headlens, bytes, count, f);
     }
     answer
 }

@@ -1,4 +1,4 @@
-// list_package: the overlaps of a package's leading words, as the text of document 01.
+// list_package: the overlaps and inclusions of a package's leading words, as the text of documents 01 and 02.
 
 use basis::BasisAnswer;
 use basis::basis::judge_basis;
@@ -11,7 +11,7 @@ ghost use mathlib.Core.Path.{_≡_};
 ghost use Prim.Native.Nat.{_≤_};
 ghost use lib.ListN.{length};
 ghost use Rattle.words.specs.Laid.{laidWords, Laid};
-ghost use Rattle.overlaps.specs.Position.{AtMost24};
+ghost use Rattle.overlapsearch.specs.Position.{AtMost24};
 ghost use Rattle.overlaps.specs.Listing.{overlapText};
 ghost use Rattle.working.specs.Family.{familyAt};
 ghost use Rattle.basis.specs.Lies.{BasisLies};
@@ -29,18 +29,19 @@ fn refusal(number: u64, place: u64) -> Listed
     }
 }
 
-// The list of the overlaps of n words that lie in the bytes.
+// The list of the pairs of n words that lie in the bytes.
 fn list_words(heads: &[usize], headlens: &[usize], bytes: &[u8], n: usize, out: &mut [u8]) -> Listed
     requires { ⌜ Laid (now heads) (now headlens) (now bytes) n ⌝ }
     requires { ⌜ (n ≤ 64) × AtMost24 (now headlens) n ⌝ }
     ensures { λ r. ⌜ r ≡ wordsListed (length (now (out .entry))) (laidWords (now (heads .entry)) (now (headlens .entry)) (now (bytes .entry)) n) ⌝ }
     ensures { λ _. ⌜ now (out .exit) ≡ fitted (overlapText (laidWords (now (heads .entry)) (now (headlens .entry)) (now (bytes .entry)) n)) (now (out .entry)) ⌝ }
 {
-    let m = measure(heads, headlens, bytes, n);
+    let mut kept = [0u32; 448];
+    let m = measure(heads, headlens, bytes, n, &mut kept);
     if out.len() < m.bytes {
         return refusal(19, m.bytes as u64);
     }
-    let written = write_list(heads, headlens, bytes, n, out);
+    let written = write_list(heads, headlens, bytes, n, &kept, m.count, out);
     Listed {
         number: 0,
         place: 0,
@@ -49,7 +50,7 @@ fn list_words(heads: &[usize], headlens: &[usize], bytes: &[u8], n: usize, out: 
     }
 }
 
-// Refusals 8 and 9 for the count polynomials of a basis that was read, and the list where there is none.
+// Refusal 8 for the count polynomials of a basis that was read, and the list where there is none.
 fn list_basis(
     coefs: &[u32],
     starts: &[u32],
@@ -84,7 +85,7 @@ fn list_basis(
     list_words(&heads, &headlens, bytes, count, out)
 }
 
-// Lists a package's overlaps into the output slice. Any bytes are taken.
+// Lists a package's overlaps and inclusions into the output slice. Any bytes are taken.
 pub fn list_package(package: &[u8], out: &mut [u8]) -> Listed
     ensures { λ r. ⌜ r ≡ listedAs (now («package» .entry)) (length (now (out .entry))) ⌝ }
     ensures { λ _. ⌜ now (out .exit) ≡ listedInto (now («package» .entry)) (now (out .entry)) ⌝ }

@@ -1,4 +1,3 @@
 pub mod Lines
 pub mod DigitCount
-pub mod Walking
 pub mod Counting

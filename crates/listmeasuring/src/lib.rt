@@ -1,8 +1,8 @@
-// How many overlaps there are and how many bytes their list has, without writing it.
+// How many pairs the list of a basis has and how many bytes it has, without writing it.
 
 pub mod measuring;
 
-// How many overlaps there are, and how many bytes their list has.
+// How many pairs there are, and how many bytes their list has.
 pub struct Measure {
     pub count: usize,
     pub bytes: usize,

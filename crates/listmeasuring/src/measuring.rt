@@ -1,18 +1,19 @@
-// The overlaps counted, and the bytes of their list.
+// The pairs counted, and the bytes of their list.
 
 use crate::Measure;
-use overlaps::Cursor;
-use overlaps::Next;
-use overlaps::finding::next_overlap;
-use overlaps::finding::place_behind;
+use overlapsearch::PairAt;
+use overlapsearch::keeping::keep_pair;
+use overlapsearch::walking::first_pair;
+use overlapsearch::walking::pair_behind;
 ghost use mathlib.Core.Path.{_≡_};
-ghost use Prim.Native.Nat.{_+_, _-_, _≤_, _<_};
+ghost use Prim.Native.Nat.{_+_, _-_, _≤_, _<_, max};
 ghost use lib.ListN.{length, getD};
 ghost use Rattle.words.specs.Laid.{laidWords, Laid};
 ghost use Rattle.text.specs.Number.{writeNumber};
 ghost use Rattle.overlaps.specs.Overlaps.{overlaps};
-ghost use Rattle.overlaps.specs.Position.{overlapOf, AtMost24};
 ghost use Rattle.overlaps.specs.Listing.{lineLength, overlapText};
+ghost use Rattle.overlapsearch.specs.Position.{pairOf, AtMost24};
+ghost use Rattle.overlapsearch.specs.Kept.{KeptPairs};
 
 // How many digits a number below 100,000 has.
 fn digits(n: usize) -> usize
@@ -22,55 +23,61 @@ fn digits(n: usize) -> usize
     textwriting::write::number_len(n as u64)
 }
 
-// How many bytes the line of an overlap has, number k of the list, with an overlap word of so many letters.
-fn line_len(k: usize, c: Cursor, letters: usize) -> usize
-    requires { ⌜ (k < 100000) × (c .first < 64) × (c .second < 64) × (c .shared ≤ 24) × (letters ≤ 48) ⌝ }
-    ensures { λ r. ⌜ (r ≡ lineLength k (overlapOf c) letters) × (r ≤ 128) ⌝ }
+// How many bytes the line of a pair has, number k of the list, with an overlap word written with so many.
+fn line_len(k: usize, f: PairAt, word: usize) -> usize
+    requires { ⌜ (k < 100000) × (f .first < 64) × (f .second < 64) × (f .shared ≤ 24) × (f .at ≤ 24) × (word ≤ 48) ⌝ }
+    ensures { λ r. ⌜ (r ≡ lineLength k (pairOf f) word) × (r ≤ 128) ⌝ }
 {
     let a = digits(k);
-    let b = digits(c.first + 1);
-    let d = digits(c.second + 1);
-    let e = digits(c.shared);
-    a + b + d + e + letters + 5
+    let b = digits(f.first + 1);
+    let c = digits(f.second + 1);
+    let d = digits(f.shared);
+    let e = digits(f.at);
+    a + b + c + d + e + word + 6
 }
 
-// How many letters the overlap word has.
-fn letters(lens: &[usize], c: Cursor) -> usize
-    requires { ⌜ (c .first < length (now lens)) × (c .second < length (now lens)) × (c .shared ≤ getD (now lens) (c .second) 0) ⌝ }
-    requires { ⌜ (getD (now lens) (c .first) 0 ≤ 24) × (getD (now lens) (c .second) 0 ≤ 24) ⌝ }
-    ensures { λ r. ⌜ (r ≡ getD (now (lens .entry)) (c .first) 0 + (getD (now (lens .entry)) (c .second) 0 - c .shared)) × (r ≤ 48) ⌝ }
+// How many bytes the overlap word is written with: an empty one has one.
+fn word_len(lens: &[usize], f: PairAt) -> usize
+    requires { ⌜ (f .first < length (now lens)) × (f .second < length (now lens)) × (f .shared ≤ getD (now lens) (f .second) 0) ⌝ }
+    requires { ⌜ (getD (now lens) (f .first) 0 ≤ 24) × (getD (now lens) (f .second) 0 ≤ 24) ⌝ }
+    ensures { λ r. ⌜ (r ≡ max 1 (getD (now (lens .entry)) (f .first) 0 + (getD (now (lens .entry)) (f .second) 0 - f .shared))) × (r ≤ 48) ⌝ }
 {
-    let first = c.first;
-    let second = c.second;
-    let rest = lens[second] - c.shared;
-    lens[first] + rest
+    let first = f.first;
+    let second = f.second;
+    let rest = lens[second] - f.shared;
+    let letters = lens[first] + rest;
+    if letters == 0 {
+        return 1;
+    }
+    letters
 }
 
-// The number of overlaps, and of the bytes of their list.
-pub fn measure(starts: &[usize], lens: &[usize], bytes: &[u8], n: usize) -> Measure
+// The number of pairs, and of the bytes of their list. The first pairs are kept.
+pub fn measure(
+    starts: &[usize],
+    lens: &[usize],
+    bytes: &[u8],
+    n: usize,
+    kept: &mut [u32; 448],
+) -> Measure
     requires { ⌜ Laid (now starts) (now lens) (now bytes) n ⌝ }
-    requires { ⌜ (n ≤ 64) × AtMost24 (now lens) n ⌝ }
+    requires { ⌜ (n ≤ 64) × AtMost24 (now lens) n × (length (now kept) ≡ 448) ⌝ }
     ensures { λ r. ⌜ r .count ≡ length (overlaps (laidWords (now (starts .entry)) (now (lens .entry)) (now (bytes .entry)) n)) ⌝ }
     ensures { λ r. ⌜ r .bytes ≡ length (overlapText (laidWords (now (starts .entry)) (now (lens .entry)) (now (bytes .entry)) n)) ⌝ }
     ensures { λ r. ⌜ (r .count ≤ 98304) × (r .bytes ≤ 16000000) ⌝ }
+    ensures { λ r. ⌜ (length (now (kept .exit)) ≡ 448) × KeptPairs (now (lens .entry)) n (laidWords (now (starts .entry)) (now (lens .entry)) (now (bytes .entry)) n) (now (kept .exit)) (r .count) ⌝ }
 {
-    let mut at = Cursor {
-        first: 0,
-        second: 0,
-        shared: 1,
-    };
     let mut count = 0;
-    let mut total = 30;
-    loop {
-        let next = next_overlap(starts, lens, bytes, n, at);
-        let Next::Overlap(c) = next else {
-            return Measure {
-                count: count,
-                bytes: total,
-            };
-        };
+    let mut total = 33;
+    let mut f = first_pair(starts, lens, bytes, n);
+    while f.present {
+        keep_pair(kept, count, f);
         count += 1;
-        total += line_len(count, c, letters(lens, c));
-        at = place_behind(c);
+        total += line_len(count, f, word_len(lens, f));
+        f = pair_behind(starts, lens, bytes, n, f);
+    }
+    Measure {
+        count: count,
+        bytes: total,
     }
 }

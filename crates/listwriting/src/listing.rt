@@ -1,18 +1,24 @@
-// The overlap list written to a slice.
+// The list of pairs written to a slice.
 
-use overlaps::Cursor;
-use overlaps::Next;
-use overlaps::finding::next_overlap;
-use overlaps::finding::place_behind;
+use overlapsearch::Cursor;
+use overlapsearch::PairAt;
+use overlapsearch::finding::next_pair;
+use overlapsearch::keeping::unpack_pair;
+use overlapsearch::walking::place_behind;
+use textwriting::write::put_bytes;
+use textwriting::write::put_word;
 ghost use mathlib.Core.Path.{_≡_};
-ghost use mathlib.Core.List.{[]};
+ghost use mathlib.Core.Bool.{true};
+ghost use mathlib.Core.List.{[], _++_};
 ghost use Prim.Native.Nat.{_+_, _≤_, _<_};
-ghost use lib.ListN.{length, getD};
+ghost use lib.ListN.{length, getD, drop};
 ghost use lib.Seq.{sets};
 ghost use Rattle.words.specs.Laid.{laidWord, laidWords, WordInside, Laid};
-ghost use Rattle.overlaps.specs.Overlaps.{overlapJoined};
-ghost use Rattle.overlaps.specs.Position.{overlapOf, AtMost24};
+ghost use Rattle.text.specs.Word.{writeWord};
+ghost use Rattle.overlaps.specs.Overlaps.{overlaps, overlapJoined};
 ghost use Rattle.overlaps.specs.Listing.{spaced, listLine, allLines, overlapText};
+ghost use Rattle.overlapsearch.specs.Position.{pairOf, pairsAt, seenPairs, Placed, AtMost24, FoundAt};
+ghost use Rattle.overlapsearch.specs.Kept.{KeptPairs};
 
 // A number and a space behind it, written to out from the place at on. The answer is the place behind them.
 fn put_spaced(out: &mut [u8], at: usize, n: usize) -> usize
@@ -25,123 +31,171 @@ fn put_spaced(out: &mut [u8], at: usize, n: usize) -> usize
     e + 1
 }
 
-// Four numbers, each with a space behind it.
+// Five numbers, each with a space behind it.
 fn put_numbers(
     out: &mut [u8],
-    at: usize,
+    place: usize,
     item: usize,
     first: usize,
     second: usize,
     shared: usize,
+    at: usize,
 ) -> usize
-    requires { ⌜ at + length (spaced item (spaced first (spaced second (spaced shared [])))) ≤ length (now out) ⌝ }
-    ensures { λ r. ⌜ r ≡ at + length (spaced item (spaced first (spaced second (spaced shared [])))) ⌝ }
-    ensures { λ _. ⌜ now (out .exit) ≡ sets (now (out .entry)) at (spaced item (spaced first (spaced second (spaced shared [])))) ⌝ }
+    requires { ⌜ place + length (spaced item (spaced first (spaced second (spaced shared (spaced at []))))) ≤ length (now out) ⌝ }
+    ensures { λ r. ⌜ r ≡ place + length (spaced item (spaced first (spaced second (spaced shared (spaced at []))))) ⌝ }
+    ensures { λ _. ⌜ now (out .exit) ≡ sets (now (out .entry)) place (spaced item (spaced first (spaced second (spaced shared (spaced at []))))) ⌝ }
 {
-    let a = put_spaced(out, at, item);
+    let a = put_spaced(out, place, item);
     let b = put_spaced(out, a, first);
     let c = put_spaced(out, b, second);
-    put_spaced(out, c, shared)
+    let d = put_spaced(out, c, shared);
+    put_spaced(out, d, at)
 }
 
-// An overlap's line, number k of the list, for the words u and v.
-fn put_line(out: &mut [u8], at: usize, k: usize, c: Cursor, u: &[u8], v: &[u8]) -> usize
-    requires { ⌜ (c .first < 64) × (c .second < 64) × (c .shared ≤ length (now v)) × (1 ≤ length (now u)) ⌝ }
-    requires { ⌜ at + length (listLine k (overlapOf c) (overlapJoined (now u) (now v) (c .shared))) ≤ length (now out) ⌝ }
-    ensures { λ r. ⌜ r ≡ at + length (listLine k (overlapOf c) (overlapJoined (now (u .entry)) (now (v .entry)) (c .shared))) ⌝ }
-    ensures { λ _. ⌜ now (out .exit) ≡ sets (now (out .entry)) at (listLine k (overlapOf c) (overlapJoined (now (u .entry)) (now (v .entry)) (c .shared))) ⌝ }
+// The word that is u followed by rest; `-` where it is empty.
+fn put_joined(out: &mut [u8], place: usize, u: &[u8], rest: &[u8]) -> usize
+    requires { ⌜ place + length (writeWord (now u ++ now rest)) ≤ length (now out) ⌝ }
+    ensures { λ r. ⌜ r ≡ place + length (writeWord (now (u .entry) ++ now (rest .entry))) ⌝ }
+    ensures { λ _. ⌜ now (out .exit) ≡ sets (now (out .entry)) place (writeWord (now (u .entry) ++ now (rest .entry))) ⌝ }
 {
-    let shared = c.shared;
-    let d = put_numbers(out, at, k, c.first + 1, c.second + 1, shared);
-    let e = textwriting::write::put_bytes(out, d, u);
-    let f = textwriting::write::put_bytes(out, e, &v[shared..]);
-    out[f] = 10;
-    f + 1
+    if u.len() == 0 {
+        return put_word(out, place, rest);
+    }
+    let e = put_bytes(out, place, u);
+    put_bytes(out, e, rest)
 }
 
-// The line of an overlap of the leading words, number k of the list.
-fn put_overlap(
+// A pair's line, number k of the list, for the words u and v.
+fn put_line(out: &mut [u8], place: usize, k: usize, f: PairAt, u: &[u8], v: &[u8]) -> usize
+    requires { ⌜ (f .first < 64) × (f .second < 64) × (f .shared ≤ length (now v)) ⌝ }
+    requires { ⌜ place + length (listLine k (pairOf f) (overlapJoined (now u) (now v) (f .shared))) ≤ length (now out) ⌝ }
+    ensures { λ r. ⌜ r ≡ place + length (listLine k (pairOf f) (overlapJoined (now (u .entry)) (now (v .entry)) (f .shared))) ⌝ }
+    ensures { λ _. ⌜ now (out .exit) ≡ sets (now (out .entry)) place (listLine k (pairOf f) (overlapJoined (now (u .entry)) (now (v .entry)) (f .shared))) ⌝ }
+{
+    let shared = f.shared;
+    let d = put_numbers(out, place, k, f.first + 1, f.second + 1, shared, f.at);
+    let e = put_joined(out, d, u, &v[shared..]);
+    out[e] = 10;
+    e + 1
+}
+
+// The line of a pair of the leading words, number k of the list.
+fn put_pair(
     starts: &[usize],
     lens: &[usize],
     bytes: &[u8],
-    c: Cursor,
+    f: PairAt,
     k: usize,
     out: &mut [u8],
-    at: usize,
+    place: usize,
 ) -> usize
-    requires { ⌜ WordInside (now starts) (now lens) (now bytes) (c .first) × WordInside (now starts) (now lens) (now bytes) (c .second) ⌝ }
-    requires { ⌜ (c .first < 64) × (c .second < 64) × (c .shared ≤ getD (now lens) (c .second) 0) × (1 ≤ getD (now lens) (c .first) 0) ⌝ }
+    requires { ⌜ WordInside (now starts) (now lens) (now bytes) (f .first) × WordInside (now starts) (now lens) (now bytes) (f .second) ⌝ }
+    requires { ⌜ (f .first < 64) × (f .second < 64) × (f .shared ≤ getD (now lens) (f .second) 0) ⌝ }
     requires { ⌜
-        at
-        + length (listLine k (overlapOf c)
-        (overlapJoined (laidWord (now starts) (now lens) (now bytes) (c .first)) (laidWord (now starts) (now lens) (now bytes) (c .second)) (c .shared)))
+        place
+        + length (listLine k (pairOf f)
+        (overlapJoined (laidWord (now starts) (now lens) (now bytes) (f .first)) (laidWord (now starts) (now lens) (now bytes) (f .second)) (f .shared)))
         ≤ length (now out)
         ⌝ }
     ensures { λ r. ⌜
         r
-        ≡ at
-        + length (listLine k (overlapOf c)
-        (overlapJoined (laidWord (now (starts .entry)) (now (lens .entry)) (now (bytes .entry)) (c .first))
-        (laidWord (now (starts .entry)) (now (lens .entry)) (now (bytes .entry)) (c .second)) (c .shared)))
+        ≡ place
+        + length (listLine k (pairOf f)
+        (overlapJoined (laidWord (now (starts .entry)) (now (lens .entry)) (now (bytes .entry)) (f .first))
+        (laidWord (now (starts .entry)) (now (lens .entry)) (now (bytes .entry)) (f .second)) (f .shared)))
         ⌝ }
     ensures { λ _. ⌜
         now (out .exit)
-        ≡ sets (now (out .entry)) at
-        (listLine k (overlapOf c)
-        (overlapJoined (laidWord (now (starts .entry)) (now (lens .entry)) (now (bytes .entry)) (c .first))
-        (laidWord (now (starts .entry)) (now (lens .entry)) (now (bytes .entry)) (c .second)) (c .shared)))
+        ≡ sets (now (out .entry)) place
+        (listLine k (pairOf f)
+        (overlapJoined (laidWord (now (starts .entry)) (now (lens .entry)) (now (bytes .entry)) (f .first))
+        (laidWord (now (starts .entry)) (now (lens .entry)) (now (bytes .entry)) (f .second)) (f .shared)))
         ⌝ }
 {
-    let first = c.first;
-    let second = c.second;
+    let first = f.first;
+    let second = f.second;
     let a = starts[first];
     let b = starts[second];
-    let e = a + lens[first];
-    let f = b + lens[second];
-    put_line(out, at, k, c, &bytes[a..e], &bytes[b..f])
+    let c = a + lens[first];
+    let d = b + lens[second];
+    put_line(out, place, k, f, &bytes[a..c], &bytes[b..d])
 }
 
-// The lines of the overlap list, written to out from the place at on. The answer is the place behind them.
+// Pair k of the list, counted from 0: one that was kept, or the first from the place `from` on, behind the one before.
+fn pair_at(
+    starts: &[usize],
+    lens: &[usize],
+    bytes: &[u8],
+    n: usize,
+    kept: &[u32; 448],
+    k: usize,
+    from: Cursor,
+) -> PairAt
+    requires { ⌜ Laid (now starts) (now lens) (now bytes) n ⌝ }
+    requires { ⌜ (n ≤ 64) × AtMost24 (now lens) n × Placed n from ⌝ }
+    requires { ⌜ (length (now kept) ≡ 448) × KeptPairs (now lens) n (laidWords (now starts) (now lens) (now bytes) n) (now kept) (length (overlaps (laidWords (now starts) (now lens) (now bytes) n))) ⌝ }
+    requires { ⌜ (k < length (overlaps (laidWords (now starts) (now lens) (now bytes) n))) × (pairsAt (laidWords (now starts) (now lens) (now bytes) n) from ≡ drop k (overlaps (laidWords (now starts) (now lens) (now bytes) n))) ⌝ }
+    ensures { λ r. ⌜ seenPairs (laidWords (now (starts .entry)) (now (lens .entry)) (now (bytes .entry)) n) r ≡ pairsAt (laidWords (now (starts .entry)) (now (lens .entry)) (now (bytes .entry)) n) from ⌝ }
+    ensures { λ r. ⌜ (r .present ≡ true → FoundAt (now (lens .entry)) n r) ⌝ }
+{
+    if k < 448 {
+        return unpack_pair(kept[k]);
+    }
+    next_pair(starts, lens, bytes, n, from)
+}
+
+// The count lines of the list, written to out from the place at on; kept holds the first of its pairs. The answer is the place behind them.
 fn write_lines(
     starts: &[usize],
     lens: &[usize],
     bytes: &[u8],
     n: usize,
+    kept: &[u32; 448],
+    count: usize,
     out: &mut [u8],
     at: usize,
 ) -> usize
     requires { ⌜ Laid (now starts) (now lens) (now bytes) n ⌝ }
-    requires { ⌜ (n ≤ 64) × AtMost24 (now lens) n ⌝ }
+    requires { ⌜ (n ≤ 64) × AtMost24 (now lens) n × (count ≡ length (overlaps (laidWords (now starts) (now lens) (now bytes) n))) ⌝ }
+    requires { ⌜ (length (now kept) ≡ 448) × KeptPairs (now lens) n (laidWords (now starts) (now lens) (now bytes) n) (now kept) count ⌝ }
     requires { ⌜ at + length (allLines (laidWords (now starts) (now lens) (now bytes) n)) ≤ length (now out) ⌝ }
     ensures { λ r. ⌜ r ≡ at + length (allLines (laidWords (now (starts .entry)) (now (lens .entry)) (now (bytes .entry)) n)) ⌝ }
     ensures { λ _. ⌜ now (out .exit) ≡ sets (now (out .entry)) at (allLines (laidWords (now (starts .entry)) (now (lens .entry)) (now (bytes .entry)) n)) ⌝ }
 {
     let mut place = at;
+    let mut k = 0;
     let mut from = Cursor {
+        inside: false,
         first: 0,
         second: 0,
-        shared: 1,
+        number: 1,
     };
-    let mut k = 1;
-    loop {
-        let next = next_overlap(starts, lens, bytes, n, from);
-        let Next::Overlap(c) = next else {
-            return place;
-        };
-        place = put_overlap(starts, lens, bytes, c, k, out, place);
-        from = place_behind(c);
+    while k < count {
+        let f = pair_at(starts, lens, bytes, n, kept, k, from);
         k += 1;
+        place = put_pair(starts, lens, bytes, f, k, out, place);
+        from = place_behind(f);
     }
+    place
 }
 
-// The overlap list, written to out from its beginning on. The answer is how many bytes it has.
-pub fn write_list(starts: &[usize], lens: &[usize], bytes: &[u8], n: usize, out: &mut [u8]) -> usize
+// The list, which has count pairs, the first of which are kept, written to out from its beginning on. The answer is how many bytes it has.
+pub fn write_list(
+    starts: &[usize],
+    lens: &[usize],
+    bytes: &[u8],
+    n: usize,
+    kept: &[u32; 448],
+    count: usize,
+    out: &mut [u8],
+) -> usize
     requires { ⌜ Laid (now starts) (now lens) (now bytes) n ⌝ }
-    requires { ⌜ (n ≤ 64) × AtMost24 (now lens) n ⌝ }
+    requires { ⌜ (n ≤ 64) × AtMost24 (now lens) n × (count ≡ length (overlaps (laidWords (now starts) (now lens) (now bytes) n))) ⌝ }
+    requires { ⌜ (length (now kept) ≡ 448) × KeptPairs (now lens) n (laidWords (now starts) (now lens) (now bytes) n) (now kept) count ⌝ }
     requires { ⌜ length (overlapText (laidWords (now starts) (now lens) (now bytes) n)) ≤ length (now out) ⌝ }
     ensures { λ r. ⌜ r ≡ length (overlapText (laidWords (now (starts .entry)) (now (lens .entry)) (now (bytes .entry)) n)) ⌝ }
     ensures { λ _. ⌜ now (out .exit) ≡ sets (now (out .entry)) 0 (overlapText (laidWords (now (starts .entry)) (now (lens .entry)) (now (bytes .entry)) n)) ⌝ }
 {
-    let e = textwriting::write::put_bytes(out, 0, b"item first second shared word\n");
-    write_lines(starts, lens, bytes, n, out, e)
+    let e = put_bytes(out, 0, b"item first second shared at word\n");
+    write_lines(starts, lens, bytes, n, kept, count, out, e)
 }

@@ -1,3 +1,3 @@
+pub mod Pairs
 pub mod Overlaps
-pub mod Position
 pub mod Listing

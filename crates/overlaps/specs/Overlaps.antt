@@ -1,81 +1,87 @@
--- Overlaps of leading words (document 01, 'Overlaps'), in the order in which they are listed and numbered.
-use mathlib.Core.Path.{_≡_}
+-- The list of the pairs of a basis that are to be certified, in the order in which they are listed and numbered: all overlaps (document 01, 'Overlaps'),
+-- then all inclusions (document 02, P2); and their differences.
 use mathlib.Core.Bool.{Bool, true, false}
-use mathlib.Core.Logic.{_⊎_}
 use mathlib.Core.List.{List, [], _∷_, _++_}
-use Prim.Native.Nat.{ℕ, zero, suc, _-_, _≤_, _<_, min}
-use lib.ListN.{length, take, drop, getD}
+use Prim.Native.Nat.{ℕ, zero, suc, _+_, _-_, min}
+use lib.Dec.{eqb, ltb}
+use lib.ListN.{length, take, drop}
 use Rattle.field.specs.Field.{Operations}
-use Rattle.lists.specs.All.{All}
 use Rattle.words.specs.Word.{Word}
+use Rattle.words.specs.Place.{standsAt}
 use Rattle.algebra.specs.Poly.{Poly, shift, sub}
 use Rattle.lists.specs.Same.{same}
 use Rattle.algebra.specs.Ideal.{Family}
 use Rattle.algebra.specs.Groebner.{lead, monic}
+use Rattle.overlaps.specs.Pairs.{Pair}
 
--- An overlap is (first, second, shared), with the numbers of two polynomials, which may be the same.
-pub record Overlap : Type 0 where
-  pub first : ℕ
-  pub second : ℕ
-  pub shared : ℕ
-
--- 01's sentence: the last `shared` letters of the first leading word are the first `shared` of the second, with shared at least 1 and below both lengths.
-pub record Overlapping (u v : Word) (shared : ℕ) : Type 0 where
-  pub some : 1 ≤ shared
-  pub first : shared < length u
-  pub second : shared < length v
-  pub same : drop (length u - shared) u ≡ take shared v
-
--- The overlap is one of the words of a list, numbered from 1. (A number that names no word has the empty word, which overlaps none.)
-abbrev pub IsOverlap : List Word → Overlap → Type 0
-IsOverlap ws o = Overlapping (getD ([] ∷ ws) (o .first) []) (getD ([] ∷ ws) (o .second) []) (o .shared)
-
--- One overlap is listed before another: by first, then second, then shared.
-abbrev pub Before : Overlap → Overlap → Type 0
-Before a b =
-    (a .first < b .first)
-    ⊎ ((a .first ≡ b .first) × ((a .second < b .second) ⊎ ((a .second ≡ b .second) × (a .shared < b .shared))))
-
--- Each overlap of a list is before all that follow.
-pub data Rising : List Overlap → Type 0 where
-  none : Rising []
-  next : {o : Overlap} {os : List Overlap} → All (Before o) os → Rising os → Rising (o ∷ os)
+-- A part of the list. Polynomials i and j with leading words u and v give, of the numbers from `lowest` on that are below `limit u v i j`, those that
+-- pass, rising, each as a pair.
+pub record Part : Type 0 where
+  pub lowest : ℕ
+  pub limit : Word → Word → ℕ → ℕ → ℕ
+  pub passes : Word → Word → ℕ → Bool
+  pub pair : Word → Word → ℕ → ℕ → ℕ → Pair
 
 -- The last n letters of u are the first n of v.
 unfoldable pub shares : Word → Word → ℕ → Bool
 unfolding same
 shares u v n = same (take n v) (drop (length u - n) u)
 
--- The overlaps of polynomials i and j with leading words u and v: shared rises from s on, through k numbers.
-unfoldable pub overlapsFrom : Word → Word → ℕ → ℕ → ℕ → ℕ → List Overlap
-unfolding shares
-overlapsFrom u v i j s zero = []
-overlapsFrom u v i j s (suc k) = elim (shares u v s) [
-  | true ↦ record { first = i; second = j; shared = s } ∷ overlapsFrom u v i j (suc s) k
-  | false ↦ overlapsFrom u v i j (suc s) k
+-- Overlaps: the number is that of the shared letters, at least 1 and below both lengths.
+abbrev pub sharing : Part
+sharing = record {
+  lowest = 1;
+  limit = λ u v i j. min (length u) (length v);
+  passes = shares;
+  pair = λ u v i j n. record { first = i; second = j; shared = n; at = length u - n };
+}
+
+-- How many places a word of b letters, polynomial j's, has in one of a letters, polynomial i's: none in its own and, where the lengths are equal, none
+-- in one of a higher number.
+unfoldable pub placesIn : ℕ → ℕ → ℕ → ℕ → ℕ
+placesIn a b i j = elim (eqb i j) [
+  | true ↦ 0
+  | false ↦ elim (ltb b a) [ true ↦ suc a - b | false ↦ elim (ltb i j) [ true ↦ suc a - b | false ↦ 0 ] ]
 ]
 
--- Shared is at least 1 and below both lengths.
-unfoldable pub overlapsOf : Word → Word → ℕ → ℕ → List Overlap
-unfolding overlapsFrom
-overlapsOf u v i j = overlapsFrom u v i j 1 (min (length u) (length v) - 1)
+-- Inclusions: the number is the place in u where v begins.
+abbrev pub placing : Part
+placing = record {
+  lowest = 0;
+  limit = λ u v i j. placesIn (length u) (length v) i j;
+  passes = λ u v n. standsAt v u n;
+  pair = λ u v i j n. record { first = i; second = j; shared = length v; at = n };
+}
 
--- Those of polynomial i, with leading word u, and each polynomial whose leading word is listed, numbered from j on: second rises.
-unfoldable pub withFirst : Word → ℕ → List Word → ℕ → List Overlap
-unfolding overlapsOf
-withFirst u i [] j = []
-withFirst u i (v ∷ vs) j = overlapsOf u v i j ++ withFirst u i vs (suc j)
+-- What two words give from the number s on, through k numbers.
+unfoldable pub pairsFrom : Part → Word → Word → ℕ → ℕ → ℕ → ℕ → List Pair
+pairsFrom X u v i j s zero = []
+pairsFrom X u v i j s (suc k) = elim (X .passes u v s) [
+  | true ↦ X .pair u v i j s ∷ pairsFrom X u v i j (suc s) k
+  | false ↦ pairsFrom X u v i j (suc s) k
+]
 
--- Those of the listed first polynomials, numbered from i on, with all: first rises.
-unfoldable pub fromFirst : List Word → List Word → ℕ → List Overlap
+-- What two words give.
+unfoldable pub pairsOf : Part → Word → Word → ℕ → ℕ → List Pair
+unfolding pairsFrom
+pairsOf X u v i j = pairsFrom X u v i j (X .lowest) (X .limit u v i j - X .lowest)
+
+-- What polynomial i, with leading word u, gives with each polynomial whose leading word is listed, numbered from j on: second rises.
+unfoldable pub withFirst : Part → Word → ℕ → List Word → ℕ → List Pair
+unfolding pairsOf
+withFirst X u i [] j = []
+withFirst X u i (v ∷ vs) j = pairsOf X u v i j ++ withFirst X u i vs (suc j)
+
+-- What the listed first polynomials, numbered from i on, give with all: first rises.
+unfoldable pub fromFirst : Part → List Word → List Word → ℕ → List Pair
 unfolding withFirst
-fromFirst all [] i = []
-fromFirst all (u ∷ us) i = withFirst u i all 1 ++ fromFirst all us (suc i)
+fromFirst X all [] i = []
+fromFirst X all (u ∷ us) i = withFirst X u i all 1 ++ fromFirst X all us (suc i)
 
--- The overlaps of a list of leading words, by first, then second, then shared, all rising.
-unfoldable pub overlaps : List Word → List Overlap
-unfolding fromFirst
-overlaps ws = fromFirst ws ws 1
+-- The list of a list of leading words: all overlaps, by first, second, shared; then all inclusions, by first, second, place.
+unfoldable pub overlaps : List Word → List Pair
+unfolding fromFirst shares placesIn standsAt
+overlaps ws = fromFirst sharing ws ws 1 ++ fromFirst placing ws ws 1
 
 -- The leading words of a basis.
 unfoldable pub leads : List Poly → List Word
@@ -83,20 +89,31 @@ unfolding lead
 leads [] = []
 leads (f ∷ ps) = lead f ∷ leads ps
 
--- The first word followed by the unshared rest of the second.
+-- The first word followed by the unshared rest of the second. (Of an inclusion nothing is unshared.)
 abbrev pub overlapJoined : Word → Word → ℕ → Word
 overlapJoined u v shared = u ++ drop shared v
 
 -- Overlap word: the first leading word followed by the unshared rest of the second.
-unfoldable pub overlapWord : Family → Overlap → Word
+unfoldable pub overlapWord : Family → Pair → Word
 unfolding lead
 overlapWord G o = overlapJoined (lead (G (o .first))) (lead (G (o .second))) (o .shared)
 
--- Difference: first polynomial × that rest, minus (the first leading word without its shared end) × second polynomial, each of the two divided by its
--- own leading coefficient (document 02, P4; source document 002, definition 3.5.2).
-unfoldable pub difference : Operations → Family → Overlap → Poly
-unfolding lead shift sub monic
-difference K G o =
-    sub K
-    (shift [] (drop (o .shared) (lead (G (o .second)))) (monic K (G (o .first))))
-    (shift (take (length (lead (G (o .first))) - o .shared) (lead (G (o .first)))) [] (monic K (G (o .second))))
+-- What is behind the first leading word in the overlap word: the unshared rest of the second.
+unfoldable pub restOf : Family → Pair → Word
+unfolding lead
+restOf G o = drop (o .shared) (lead (G (o .second)))
+
+-- What is left of the second leading word in the overlap word, and what of the first is right of it. (Of an overlap nothing is.)
+unfoldable pub frontOf : Family → Pair → Word
+unfolding lead
+frontOf G o = take (o .at) (lead (G (o .first)))
+
+unfoldable pub backOf : Family → Pair → Word
+unfolding lead
+backOf G o = drop (o .at + length (lead (G (o .second)))) (lead (G (o .first)))
+
+-- Difference: first polynomial × rest, minus front × second polynomial × back, each of the two polynomials divided by its own leading coefficient
+-- (document 02, P2 and P4; source document 002, definition 3.5.2).
+unfoldable pub difference : Operations → Family → Pair → Poly
+unfolding lead shift sub monic restOf frontOf backOf
+difference K G o = sub K (shift [] (restOf G o) (monic K (G (o .first)))) (shift (frontOf G o) (backOf G o) (monic K (G (o .second))))

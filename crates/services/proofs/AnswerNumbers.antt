@@ -3,8 +3,7 @@ use mathlib.Core.Path.{_≡_, refl}
 use mathlib.Core.Bool.{Bool, true, false}
 use mathlib.Core.List.{List, [], _∷_}
 use Prim.Native.Nat.{ℕ}
-use native.Mathlib.Omega.{arith}
-use lib.Dec.{ltb, lit≤}
+use lib.Dec.{ltb}
 use lib.ListN.{length}
 use Rattle.field.specs.Field.{fieldOf}
 use Rattle.words.specs.Word.{Word}
@@ -44,20 +43,19 @@ module _ (Q : ℕ → Type 0) where
 
   -- What 8 gives may depend on the package.
   module _ (bytes : List ℕ) (eight : (P : Package) → readPackage bytes ≡ read P → Judged Q (zerosJudged (basis P) 1)) where
-    pub acceptance-by : ((n : ℕ) → Between 9 15 n → Q n) → Numbered Q (readPackage bytes) → Numbered Q (acceptance bytes)
+    pub acceptance-by : ((n : ℕ) → Between 10 15 n → Q n) → Numbered Q (readPackage bytes) → Numbered Q (acceptance bytes)
     unfolding acceptance
     acceptance-by h = judged-number checked (readPackage bytes) (λ P e. check-judged Q P (eight P e) h)
 
-    pub listable-by : Q 9 → Numbered Q (readPackage bytes) → Numbered Q (listable bytes)
+    pub listable-by : Numbered Q (readPackage bytes) → Numbered Q (listable bytes)
     unfolding listable
-    listable-by r = judged-number (λ P. basisJudged (basis P)) (readPackage bytes) (λ P e. basis-judged Q (basis P) (eight P e) r)
+    listable-by = judged-number (λ P. basisJudged (basis P)) (readPackage bytes) (λ P e. basis-judged Q (basis P) (eight P e))
 
-  pub acceptance-has : ((n : ℕ) → Between 8 15 n → Q n) → (bytes : List ℕ) → Numbered Q (readPackage bytes) → Numbered Q (acceptance bytes)
-  acceptance-has h bytes =
-      acceptance-by bytes (λ P e. zeros-number Q (h 8 (lit≤ tt, lit≤ tt)) (basis P) 1) (λ n x. h n (let k = x .0 in omega arith, x .1))
+  pub acceptance-has : Q 8 → ((n : ℕ) → Between 10 15 n → Q n) → (bytes : List ℕ) → Numbered Q (readPackage bytes) → Numbered Q (acceptance bytes)
+  acceptance-has q h bytes = acceptance-by bytes (λ P e. zeros-number Q q (basis P) 1) h
 
-  pub listable-has : Q 8 → Q 9 → (bytes : List ℕ) → Numbered Q (readPackage bytes) → Numbered Q (listable bytes)
-  listable-has q r bytes = listable-by bytes (λ P e. zeros-number Q q (basis P) 1) r
+  pub listable-has : Q 8 → (bytes : List ℕ) → Numbered Q (readPackage bytes) → Numbered Q (listable bytes)
+  listable-has q bytes = listable-by bytes (λ P e. zeros-number Q q (basis P) 1)
 
   -- A reduction that, where it is a refusal, has a number with the property.
   unfoldable pub ReductionNumber : Reduction → Type 0

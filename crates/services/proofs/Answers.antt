@@ -2,7 +2,7 @@
 use mathlib.Core.Path.{_≡_, refl, _∙_, ap}
 use mathlib.Core.Bool.{Bool, true, false}
 use mathlib.Core.List.{List}
-use Prim.Native.Nat.{ℕ}
+use Prim.Native.Nat.{ℕ, _≤_}
 use native.Mathlib.Omega.{arith}
 use lib.Dec.{ltb}
 use lib.ListN.{length, take}
@@ -19,11 +19,11 @@ use Rattle.acceptance.specs.Check.{Verdict, refusal, fine, checked}
 use Rattle.acceptance.specs.Acceptance.{judgedBy, acceptance}
 use Rattle.acceptance.specs.Reduction.{formulaLimits, Reduction, refusedBy, shortForm, reductionOf, formulaReduced, packageReduced, reduction}
 use Rattle.services.specs.Services.{checkAnswer, checkedAs, fitted, shortAnswer, shortenedAs, shortOutput, shortenedInto, memberAnswer, membershipAs}
-use Rattle.services.specs.Demands.{Between, AcceptedAs}
+use Rattle.services.specs.Demands.{AcceptedAs}
 use Rattle.services.proofs.VerdictNumbers.{Judged, check-number}
 use Rattle.services.proofs.OutputStart.{stored}
 
--- The check refuses nothing exactly where the package reads and no refusal of 8 to 15 is met.
+-- The check refuses nothing exactly where the package reads and no refusal of 8 and 10 to 15 is met.
 pub accepted-is : (bytes : List ℕ) (P : Package) → readPackage bytes ≡ read P → checked P ≡ fine → acceptance bytes ≡ read P
 unfolding acceptance judgedBy
 accepted-is bytes P e c = rw (acceptance, e, judgedBy, c)
@@ -32,10 +32,10 @@ pub answered-fine : (bytes : List ℕ) (P : Package) → readPackage bytes ≡ r
 unfolding checkedAs acceptance Judged checkAnswer judgedBy
 answered-fine bytes P e n = go (checked P) refl (check-number P) (rw e at n)
   where
-    go : (v : Verdict) → checked P ≡ v → Judged (Between 8 15) (checked P) → checkAnswer (judgedBy checked (read P)) .number ≡ 0 → checked P ≡ fine
+    go : (v : Verdict) → checked P ≡ v → Judged (λ n. 1 ≤ n) (checked P) → checkAnswer (judgedBy checked (read P)) .number ≡ 0 → checked P ≡ fine
     go (refusal r k) q j z =
-        let b : Between 8 15 r = rw q at j in
-        let e : r ≡ 0 = rw (judgedBy, q) at z in absurd (omega (arith, b .0))
+        let b : 1 ≤ r = rw q at j in
+        let e : r ≡ 0 = rw (judgedBy, q) at z in absurd (omega arith)
     go fine q j z = q
 
 pub acceptance-is : (bytes : List ℕ) (P : Package) → AcceptedAs bytes P → acceptance bytes ≡ read P

@@ -1,4 +1,4 @@
--- What the services answer is what 01 defines: the overlap list has the overlaps, and short form and membership tell the steps and their end.
+-- What the services answer is what 01 and 02 define: the list has the overlaps and inclusions, and short form and membership tell the steps and their end.
 use mathlib.Core.Path.{_≡_, refl, _∙_, ap}
 use mathlib.Core.Logic.{_≢_}
 use mathlib.Core.List.{List, [], _∷_}
@@ -7,7 +7,8 @@ use lib.ListN.{length}
 use Rattle.algebra.specs.Poly.{Poly}
 use Rattle.package.specs.Package.{Package, Outcome, read, readPackage}
 use Rattle.package.specs.Writing.{writeFormula}
-use Rattle.overlaps.specs.Overlaps.{Overlap, leads, overlaps}
+use Rattle.overlaps.specs.Pairs.{Pair}
+use Rattle.overlaps.specs.Overlaps.{leads, overlaps}
 use Rattle.overlaps.specs.Listing.{overlapText}
 use Rattle.overlaps.proofs.Listed.{listed-iff, overlaps-rising}
 use Rattle.acceptance.specs.Content.{basis}
@@ -26,7 +27,7 @@ overlaps-of : (P : Package) → OverlapsOf P (overlaps (leads (basis P)))
 overlaps-of P = record { all = listed-iff (leads (basis P)); order = overlaps-rising (leads (basis P)) }
 
 -- The check's count.
-pub check-count : (bytes : List ℕ) (P : Package) → AcceptedAs bytes P → (os : List Overlap) × OverlapsOf P os × (checkedAs bytes .overlaps ≡ length os)
+pub check-count : (bytes : List ℕ) (P : Package) → AcceptedAs bytes P → (os : List Pair) × OverlapsOf P os × (checkedAs bytes .overlaps ≡ length os)
 unfolding checkedAs checkAnswer
 check-count bytes P acc =
     (overlaps (leads (basis P)), overlaps-of P, ap (λ (o : Outcome). checkAnswer o .overlaps) (acceptance-is bytes P acc))

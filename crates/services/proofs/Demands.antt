@@ -31,7 +31,7 @@ demand1 : Demand1
 demand1 = record {
   check = λ bytes.
       let n = checkedAs bytes .number in
-      answer-or-refusal n (λ e. (e, check-success bytes e)) (λ h. ((positive n h, check-numbers bytes), refused-check bytes h));
+      answer-or-refusal n (λ e. (e, check-success bytes e)) (λ h. let (k, l) = check-numbers bytes in (((positive n h, k), l), refused-check bytes h));
   list = λ bytes out.
       let n = listedAs bytes (length out) .number in
       answer-or-refusal n (λ e. (e, list-success bytes (length out) e))
@@ -39,14 +39,14 @@ demand1 = record {
   short = λ bytes text budget out.
       let n = shortenedAs bytes text budget (length out) .number in
       answer-or-refusal n (λ e. (e, short-success bytes text budget (length out) e))
-      (λ h. let (a, b, c) = refused-short bytes text budget out h in ((positive n h, short-numbers bytes text budget (length out)), a, b, c));
+      (λ h. let (a, b, c) = refused-short bytes text budget out h in let (k, l) = short-numbers bytes text budget (length out) in (((positive n h, k), l), a, b, c));
   member = λ bytes text budget.
       let n = membershipAs bytes text budget .number in
       answer-or-refusal n (λ e. (e, member-success bytes text budget e))
-      (λ h. let (a, b) = refused-member bytes text budget h in ((positive n h, member-numbers bytes text budget), a, b));
+      (λ h. let (a, b) = refused-member bytes text budget h in let (k, l) = member-numbers bytes text budget in (((positive n h, k), l), a, b));
 }
   where
-    listed : (n : ℕ) → n ≢ 0 → (n ≤ 9) ⊎ (n ≡ 19) → Between 1 9 n ⊎ (n ≡ 19)
+    listed : (n : ℕ) → n ≢ 0 → (n ≤ 8) ⊎ (n ≡ 19) → Between 1 8 n ⊎ (n ≡ 19)
     listed n h (inl l) = inl (positive n h, l)
     listed n h (inr e) = inr e
 

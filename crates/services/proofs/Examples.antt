@@ -17,7 +17,7 @@ use Rattle.acceptance.specs.Acceptance.{acceptance}
 use Rattle.acceptance.specs.Reduction.{packageReduced}
 use Rattle.services.specs.Services.{listable, checkedAs}
 use Rattle.services.specs.Demands.{AcceptedAs}
-use Rattle.services.specs.Examples.{Keeps, Empties, Claim, examples, packageNone, packageOne, edges, package256, byteRows, packageScaled, scaledRows}
+use Rattle.services.specs.Examples.{Keeps, Empties, Claim, examples, packageNone, packageOne, edges, package256, byteRows, packageScaled, scaledRows, packageUntrimmed, packageConstants, packageTwice, untrimmedRows}
 use Rattle.services.proofs.TrivialBases.{none-keeps, one-empties}
 use Rattle.services.proofs.Rows.{shortens, is-member, refuses, lacks-room, is-above, lists, accepts}
 
@@ -45,6 +45,22 @@ accepted256 = (_, refl)
 acceptedScaled : (P : Package) × (acceptance packageScaled ≡ read P)
 unfolding acceptance packageScaled decLt
 acceptedScaled = (_, refl)
+
+acceptedUntrimmed : (P : Package) × (acceptance packageUntrimmed ≡ read P)
+unfolding acceptance packageUntrimmed decLt
+acceptedUntrimmed = (_, refl)
+
+listableUntrimmed : (P : Package) × (listable packageUntrimmed ≡ read P)
+unfolding listable packageUntrimmed
+listableUntrimmed = (_, refl)
+
+listableConstants : (P : Package) × (listable packageConstants ≡ read P)
+unfolding listable packageConstants
+listableConstants = (_, refl)
+
+listableTwice : (P : Package) × (listable packageTwice ≡ read P)
+unfolding listable packageTwice
+listableTwice = (_, refl)
 
 -- No relations and no basis: each formula is its own short form.
 acceptedAsNone : AcceptedAs packageNone (acceptedNone .0)
@@ -120,4 +136,17 @@ scaled-rows-hold =
     also shortens (acceptedScaled .1) refl refl
     also shortens (acceptedScaled .1) refl refl
     also is-member (acceptedScaled .1) refl
+    also done
+
+-- The rows of bases that are not trimmed.
+pub untrimmed-rows-hold : All Claim untrimmedRows
+unfolding Claim untrimmedRows acceptedUntrimmed listableUntrimmed listableConstants listableTwice decLt packageReduced writeFormula writeNumber writeWord overlaps leads basis overlapText
+untrimmed-rows-hold =
+    accepts (acceptedUntrimmed .1) refl
+    also lists (listableUntrimmed .1) refl refl
+    also shortens (acceptedUntrimmed .1) refl refl
+    also shortens (acceptedUntrimmed .1) refl refl
+    also is-member (acceptedUntrimmed .1) refl
+    also lists (listableConstants .1) refl refl
+    also lists (listableTwice .1) refl refl
     also done

@@ -18,7 +18,7 @@ use Rattle.services.proofs.AnswerNumbers.{acceptance-has, listable-has,
 -- Only these packages get 3.
 module _ (bytes : List ℕ) where
   acceptance-3 : Numbered (OnlyNoField bytes) (acceptance bytes)
-  acceptance-3 = acceptance-has (OnlyNoField bytes) (λ n x. other bytes n (λ e. omega (arith, x .0))) bytes (read-3 bytes)
+  acceptance-3 = acceptance-has (OnlyNoField bytes) (other bytes 8 (λ e. omega arith)) (λ n x. other bytes n (λ e. omega (arith, x .0))) bytes (read-3 bytes)
 
   reduction-3 : (text : List ℕ) (budget : ℕ) → ReductionNumber (OnlyNoField bytes) (reduction bytes text budget)
   reduction-3 text budget =
@@ -34,7 +34,7 @@ module _ (bytes : List ℕ) where
   check-3 = check-has (OnlyNoField bytes) success bytes acceptance-3
 
   pub list-3 : (room : ℕ) → listedAs bytes room .number ≡ 3 → NoField bytes
-  list-3 room = list-has (OnlyNoField bytes) success narrow bytes room (listable-has (OnlyNoField bytes) (other bytes 8 (λ e. omega arith)) (other bytes 9 (λ e. omega arith)) bytes (read-3 bytes))
+  list-3 room = list-has (OnlyNoField bytes) success narrow bytes room (listable-has (OnlyNoField bytes) (other bytes 8 (λ e. omega arith)) bytes (read-3 bytes))
 
   pub short-3 : (text : List ℕ) (budget room : ℕ) → shortenedAs bytes text budget room .number ≡ 3 → NoField bytes
   short-3 text budget room = short-has (OnlyNoField bytes) success narrow bytes text budget room (reduction-3 text budget)

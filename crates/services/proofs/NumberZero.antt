@@ -21,7 +21,7 @@ use Rattle.acceptance.specs.Check.{Verdict, refusal, fine, basisJudged, checked
 use Rattle.acceptance.specs.Acceptance.{judgedBy, acceptance}
 use Rattle.acceptance.specs.Reduction.{formulaLimits, Reduction, refusedBy, shortForm, reductionOf, formulaReduced, packageReduced, reduction}
 use Rattle.services.specs.Services.{listable, checkAnswer, checkedAs, wordsListed, listAnswer, listedAs, shortAnswer, shortenedAs, memberAnswer, membershipAs}
-use Rattle.services.specs.Demands.{Between, AcceptedAs, ReadAs}
+use Rattle.services.specs.Demands.{Between, Refusing, AcceptedAs, ReadAs}
 use Rattle.package.proofs.ReadingNumbers.{Numbered}
 use Rattle.services.proofs.AnswerNumbers.{ReductionNumber}
 use Rattle.services.proofs.ServiceNumbers.{listable-number, reduction-number}
@@ -51,7 +51,7 @@ list-answered bytes room e = go (listable bytes) refl (listable-number bytes) e
     by P true q z = absurd (let y : _≡_ {A = ℕ} 19 0 = rw (wordsListed, q) at z in omega arith)
     by P false q z = ltb-false room (length (overlapText (leads (basis P)))) q
 
-    go : (o : Outcome) → listable bytes ≡ o → Numbered (Between 1 9) o → listAnswer room o .number ≡ 0
+    go : (o : Outcome) → listable bytes ≡ o → Numbered (Between 1 8) o → listAnswer room o .number ≡ 0
         → (P : Package) × (listable bytes ≡ read P) × (readPackage bytes ≡ read P) × (length (overlapText (leads (basis P))) ≤ room)
     go (refused n k) q (a, b) z = absurd (omega arith)
     go (read P) q x z =
@@ -102,9 +102,9 @@ short-ran bytes text budget room e = go (reduction bytes text budget) refl (redu
     by N m true q z = absurd (let y : _≡_ {A = ℕ} 19 0 = rw (shortAnswer, q) at z in omega arith)
     by N m false q z = ltb-false room (length (writeFormula N)) q
 
-    go : (r : Reduction) → reduction bytes text budget ≡ r → ReductionNumber (Between 1 18) r → shortAnswer room r .number ≡ 0
+    go : (r : Reduction) → reduction bytes text budget ≡ r → ReductionNumber (Refusing 18) r → shortAnswer room r .number ≡ 0
         → (N : Poly) × (m : ℕ) × (reduction bytes text budget ≡ shortForm N m) × (length (writeFormula N) ≤ room) × RanTo bytes text budget N m
-    go (refusedBy n k) q (a, b) z = absurd (omega arith)
+    go (refusedBy n k) q ((a, b), c) z = absurd (omega arith)
     go (shortForm N m) q x z = (N, m, q, by N m (ltb room (length (writeFormula N))) refl z, reduction-ran bytes text budget N m q)
 
 -- Membership.
@@ -113,7 +113,7 @@ pub member-ran : (bytes text : List ℕ) (budget : ℕ) → membershipAs bytes t
 unfolding membershipAs memberAnswer ReductionNumber
 member-ran bytes text budget e = go (reduction bytes text budget) refl (reduction-number bytes text budget) e
   where
-    go : (r : Reduction) → reduction bytes text budget ≡ r → ReductionNumber (Between 1 18) r → memberAnswer r .number ≡ 0
+    go : (r : Reduction) → reduction bytes text budget ≡ r → ReductionNumber (Refusing 18) r → memberAnswer r .number ≡ 0
         → (N : Poly) × (m : ℕ) × (reduction bytes text budget ≡ shortForm N m) × RanTo bytes text budget N m
-    go (refusedBy n k) q (a, b) z = absurd (omega arith)
+    go (refusedBy n k) q ((a, b), c) z = absurd (omega arith)
     go (shortForm N m) q x z = (N, m, q, reduction-ran bytes text budget N m q)

@@ -1,24 +1,24 @@
--- A package that reads is refused by one of the numbers 8 to 15; where the basis alone is judged, by 8 or 9. Each law says that a refusal's number has
+-- A package that reads is refused by 8 or by one of 10 to 15; where the basis alone is judged, by 8. Each law says that a refusal's number has
 -- every property Q that the numbers of that judgement have.
 use mathlib.Core.Bool.{Bool, true, false}
 use mathlib.Core.List.{List, [], _∷_}
-use Prim.Native.Nat.{ℕ, suc}
+use Prim.Native.Nat.{ℕ, suc, _≤_}
 use native.Mathlib.Omega.{arith}
 use lib.Dec.{eqb, ltb, lit≤}
 use lib.ListN.{length}
 use Rattle.lists.specs.All.{All, done, _also_}
 use Rattle.field.specs.Field.{Operations, fieldOf}
-use Rattle.words.specs.Word.{Word}
 use Rattle.words.specs.Order.{Order, wordOrder}
 use Rattle.algebra.specs.Poly.{Poly}
 use Rattle.algebra.specs.Written.{written}
 use Rattle.algebra.specs.Ideal.{Family, family}
-use Rattle.overlaps.specs.Overlaps.{Overlap, leads, overlaps, overlapWord, difference}
+use Rattle.overlaps.specs.Pairs.{Pair}
+use Rattle.overlaps.specs.Overlaps.{leads, overlaps, overlapWord, difference}
 use Rattle.package.specs.Names.{sumO}
 use Rattle.package.specs.Sums.{SumLine}
 use Rattle.package.specs.Package.{Package}
 use Rattle.acceptance.specs.Content.{relations, basis, sumOf}
-use Rattle.acceptance.specs.Check.{Verdict, refusal, fine, thenJudge, zerosJudged, holdsOther, apartJudged, Left, fails, over, rest, less, anyLine, isUnder, sumVerdict, sumsJudged, Side, sides, kindsJudged, itemsJudged, overlapsJudged, basisJudged, sumsVerdict, checked}
+use Rattle.acceptance.specs.Check.{Verdict, refusal, fine, thenJudge, zerosJudged, Left, fails, over, rest, less, anyLine, isUnder, sumVerdict, sumsJudged, Side, sides, kindsJudged, itemsJudged, overlapsJudged, basisJudged, sumsVerdict, checked}
 use Rattle.services.specs.Demands.{Between}
 
 module _ (Q : ℕ → Type 0) where
@@ -37,15 +37,6 @@ module _ (Q : ℕ → Type 0) where
   zeros-number q [] i = tt
   zeros-number q ([] ∷ ps) i = q
   zeros-number q ((t ∷ f) ∷ ps) i = zeros-number q ps (suc i)
-
-  apart-number : Q 9 → (all us : List Word) (i : ℕ) → Judged (apartJudged all us i)
-  unfolding Judged apartJudged
-  apart-number q all [] i = tt
-  apart-number q all (u ∷ us) i = go (holdsOther u i all 1) (apart-number q all us (suc i))
-    where
-      go : (b : Bool) → Judged (apartJudged all us (suc i)) → Judged (elim b [ true ↦ refusal 9 i | false ↦ apartJudged all us (suc i) ])
-      go true x = q
-      go false x = x
 
   left-number : Q 10 → Q 14 → {n : ℕ} → Q n → (i : ℕ) (l : Left) → Judged (sumVerdict n i l)
   unfolding Judged sumVerdict
@@ -80,7 +71,7 @@ module _ (Q : ℕ → Type 0) where
       go true true x = q
       go true false x = x
 
-  overlaps-number : Q 10 → Q 13 → Q 14 → (K : Operations) (O : Order) (G : Family) (ss : List SumLine) (os : List Overlap) (i : ℕ)
+  overlaps-number : Q 10 → Q 13 → Q 14 → (K : Operations) (O : Order) (G : Family) (ss : List SumLine) (os : List Pair) (i : ℕ)
       → Judged (overlapsJudged K O G ss os i)
   unfolding Judged overlapsJudged
   overlaps-number q r u K O G ss [] i = tt
@@ -88,29 +79,27 @@ module _ (Q : ℕ → Type 0) where
       let l = less (isUnder O G (overlapWord G o)) K O G (written K O (difference K G o)) (sumOf sumO i ss) in
       then-number (sumVerdict 13 i l) (overlapsJudged K O G ss os (suc i)) (left-number q u r i l) (overlaps-number q r u K O G ss os (suc i))
 
-  -- The basis is refused by what 8 gives, or by 9.
-  pub basis-judged : (ps : List Poly) → Judged (zerosJudged ps 1) → Q 9 → Judged (basisJudged ps)
+  -- The basis is refused by what 8 gives.
+  pub basis-judged : (ps : List Poly) → Judged (zerosJudged ps 1) → Judged (basisJudged ps)
   unfolding basisJudged
-  basis-judged ps q r = then-number (zerosJudged ps 1) (apartJudged (leads ps) (leads ps) 1) q (apart-number r (leads ps) (leads ps) 1)
+  basis-judged ps q = q
 
-  -- The check refuses a package that reads by what 8 gives, or by one of 9 to 15.
-  pub check-judged : (P : Package) → Judged (zerosJudged (basis P) 1) → ((n : ℕ) → Between 9 15 n → Q n) → Judged (checked P)
+  -- The check refuses a package that reads by what 8 gives, or by one of 10 to 15.
+  pub check-judged : (P : Package) → Judged (zerosJudged (basis P) 1) → ((n : ℕ) → Between 10 15 n → Q n) → Judged (checked P)
   unfolding checked sumsVerdict
   check-judged P q h =
       let K = fieldOf (P .head .p) in
       let rs = relations P in
       let ps = basis P in
       let ss = P .sums in
-      let nine = h 9 (lit≤ tt, lit≤ tt) in
       let ten = h 10 (lit≤ tt, lit≤ tt) in
       let fourteen = h 14 (lit≤ tt, lit≤ tt) in
-      then-number (basisJudged ps) _ (basis-judged ps q nine)
+      then-number (basisJudged ps) _ (basis-judged ps q)
       (then-number (kindsJudged K wordOrder ss (sides rs ps)) _
       (kinds-number ten fourteen K wordOrder ss (sides rs ps) (h 11 (lit≤ tt, lit≤ tt) also h 12 (lit≤ tt, lit≤ tt) also done))
       (then-number (itemsJudged (length (overlaps (leads ps))) ss) _ (items-number (h 15 (lit≤ tt, lit≤ tt)) (length (overlaps (leads ps))) ss)
       (overlaps-number ten (h 13 (lit≤ tt, lit≤ tt)) fourteen K wordOrder (family ps) ss (overlaps (leads ps)) 1)))
 
--- The check refuses a package that reads by one of 8 to 15.
-pub check-number : (P : Package) → Judged (Between 8 15) (checked P)
-check-number P =
-    check-judged (Between 8 15) P (zeros-number (Between 8 15) (lit≤ tt, lit≤ tt) (basis P) 1) (λ n x. (let k = x .0 in omega arith, x .1))
+-- The check refuses a package that reads by a number that is not 0.
+pub check-number : (P : Package) → Judged (λ n. 1 ≤ n) (checked P)
+check-number P = check-judged (λ n. 1 ≤ n) P (zeros-number (λ n. 1 ≤ n) (lit≤ tt) (basis P) 1) (λ n x. omega (arith, x .0))

@@ -7,11 +7,10 @@ use native.Mathlib.Omega.{arith}
 use Rattle.field.specs.Field.{fieldOf}
 use Rattle.words.specs.Order.{wordOrder}
 use Rattle.algebra.specs.Poly.{Poly}
-use Rattle.overlaps.specs.Overlaps.{leads}
 use Rattle.package.specs.Package.{Package, Outcome, refused, read, readPackage}
 use Rattle.package.proofs.ReadingNumbers.{Numbered, read-known}
 use Rattle.acceptance.specs.Content.{relations, basis}
-use Rattle.acceptance.specs.Check.{Verdict, refusal, fine, thenJudge, zerosJudged, apartJudged, basisJudged, sumsVerdict, checked}
+use Rattle.acceptance.specs.Check.{Verdict, refusal, fine, thenJudge, zerosJudged, basisJudged, sumsVerdict, checked}
 use Rattle.acceptance.specs.Acceptance.{judgedBy, acceptance}
 use Rattle.acceptance.specs.Reduction.{packageReduced, reduction}
 use Rattle.acceptance.specs.ZeroBasis.{FirstZero, ZeroBasis}
@@ -56,7 +55,7 @@ module _ (bytes : List ℕ) where
   pub list-8 : (room : ℕ) → listedAs bytes room .number ≡ 8 → SomeZero bytes
   unfolding OnlyZero
   list-8 room =
-      list-has OnlyZero (other 0 (λ e. omega arith)) (other 19 (λ e. omega arith)) bytes room (listable-by OnlyZero bytes eight (other 9 (λ e. omega arith)) reading-8)
+      list-has OnlyZero (other 0 (λ e. omega arith)) (other 19 (λ e. omega arith)) bytes room (listable-by OnlyZero bytes eight reading-8)
 
   pub short-8 : (text : List ℕ) (budget room : ℕ) → shortenedAs bytes text budget room .number ≡ 8 → SomeZero bytes
   unfolding OnlyZero
@@ -68,8 +67,8 @@ module _ (bytes : List ℕ) where
 
 -- And they get it from every service.
 basis-8 : (ps : List Poly) (i : ℕ) → FirstZero ps i → basisJudged ps ≡ refusal 8 i
-unfolding basisJudged thenJudge
-basis-8 ps i z = ap (λ (v : Verdict). thenJudge v (apartJudged (leads ps) (leads ps) 1)) (refusal-of-zero ps i z)
+unfolding basisJudged
+basis-8 ps i z = refusal-of-zero ps i z
 
 checked-8 : (P : Package) (i : ℕ) → FirstZero (basis P) i → checked P ≡ refusal 8 i
 unfolding checked thenJudge

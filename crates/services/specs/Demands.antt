@@ -25,7 +25,8 @@ use Rattle.package.specs.NoField.{NoField}
 use Rattle.package.specs.Package.{Package, read, readPackage}
 use Rattle.package.specs.Readable.{Readable}
 use Rattle.package.specs.Writing.{writeFormula, writePackage}
-use Rattle.overlaps.specs.Overlaps.{Overlap, IsOverlap, Rising, leads}
+use Rattle.overlaps.specs.Pairs.{Pair, IsPair, Before, Rising}
+use Rattle.overlaps.specs.Overlaps.{leads}
 use Rattle.overlaps.specs.Listing.{overlapNames, overlapLines}
 use Rattle.acceptance.specs.Content.{relations, basis}
 use Rattle.acceptance.specs.Facts.{Acceptable}
@@ -62,28 +63,32 @@ refusedShort n k = record { number = n; place = k; steps = 0; written = 0 }
 abbrev pub Between : ℕ → ℕ → ℕ → Type 0
 Between lo hi n = (lo ≤ n) × (n ≤ hi)
 
+-- A refusal by one of 1 to hi. 9 is not among them: it is no longer met (document 02, P2).
+abbrev pub Refusing : ℕ → ℕ → Type 0
+Refusing hi n = Between 1 hi n × (n ≢ 9)
+
 -- An answer has number 0 and place 0.
 abbrev pub Success : ℕ → ℕ → Type 0
 Success number place = (number ≡ 0) × (place ≡ 0)
 
--- The check answers, or it refuses by one of 1 to 15 with overlap count 0.
+-- The check answers, or it refuses by one of 1 to 15, but not by 9, with overlap count 0.
 abbrev pub CheckEnds : Checked → Type 0
-CheckEnds a = Success (a .number) (a .place) ⊎ (Between 1 15 (a .number) × (a .overlaps ≡ 0))
+CheckEnds a = Success (a .number) (a .place) ⊎ (Refusing 15 (a .number) × (a .overlaps ≡ 0))
 
--- Listing answers, or it refuses by one of 1 to 9 or by 19, with both counts 0, and the output slice is after it what it was before.
+-- Listing answers, or it refuses by one of 1 to 8 or by 19, with both counts 0, and the output slice is after it what it was before.
 abbrev pub ListEnds : Listed → List ℕ → List ℕ → Type 0
 ListEnds a before after =
     Success (a .number) (a .place)
-    ⊎ ((Between 1 9 (a .number) ⊎ (a .number ≡ 19)) × (a .overlaps ≡ 0) × (a .written ≡ 0) × (after ≡ before))
+    ⊎ ((Between 1 8 (a .number) ⊎ (a .number ≡ 19)) × (a .overlaps ≡ 0) × (a .written ≡ 0) × (after ≡ before))
 
--- The short form service answers, or it refuses by one of 1 to 19, with both counts 0, and the output slice is after it what it was before.
+-- The short form service answers, or it refuses by one of 1 to 19, but not by 9, with both counts 0, and the output slice is after it what it was before.
 abbrev pub ShortEnds : Shortened → List ℕ → List ℕ → Type 0
 ShortEnds a before after =
-    Success (a .number) (a .place) ⊎ (Between 1 19 (a .number) × (a .steps ≡ 0) × (a .written ≡ 0) × (after ≡ before))
+    Success (a .number) (a .place) ⊎ (Refusing 19 (a .number) × (a .steps ≡ 0) × (a .written ≡ 0) × (after ≡ before))
 
--- Membership answers, or it refuses by one of 1 to 18 with 0 steps and no. It never gives 19: it has no output slice.
+-- Membership answers, or it refuses by one of 1 to 18, but not by 9, with 0 steps and no. It never gives 19: it has no output slice.
 abbrev pub MemberEnds : Membership → Type 0
-MemberEnds a = Success (a .number) (a .place) ⊎ (Between 1 18 (a .number) × (a .steps ≡ 0) × (a .member ≡ 0))
+MemberEnds a = Success (a .number) (a .place) ⊎ (Refusing 18 (a .number) × (a .steps ≡ 0) × (a .member ≡ 0))
 
 -- Demand 1. Whatever bytes are handed in as a package or a formula, with whatever budget and output slice, every service ends and either answers or
 -- refuses by its number, and a refusal leaves the output slice unchanged.
@@ -96,8 +101,8 @@ pub record Demand1 : Type 0 where
 
 -- ==== Demand 2: what is answered is what document 01 says
 
--- The facts of acceptance of document 01, with document 02's P4, hold of the bytes: they are the text of a package, at most 65,536 of them, that reads,
--- and of which hold the facts about its basis, its overlaps and its sums (acceptance/specs/Facts.antt).
+-- The facts of acceptance of document 01, with document 02's P2 and P4, hold of the bytes: they are the text of a package, at most 65,536 of them, that
+-- reads, and of which hold the facts about its basis, its overlaps and inclusions, and its sums (acceptance/specs/Facts.antt).
 pub record FactsHold (bytes : List ℕ) : Type 0 where
   pub content : Package
   pub is-text : bytes ≡ writePackage content
@@ -116,26 +121,26 @@ pub record EachRefuses (bytes : List ℕ) (n k : ℕ) : Type 0 where
 abbrev pub SomeZero : List ℕ → Type 0
 SomeZero bytes = (i : ℕ) × ZeroBasis bytes i
 
--- The list holds the overlaps of the package's leading words by 01's sentence, all of them and nothing else, by first, then second, then shared, all
--- rising.
-pub record OverlapsOf (P : Package) (os : List Overlap) : Type 0 where
-  pub all : (o : Overlap) → List·Memᴰ o os ↔ IsOverlap (leads (basis P)) o
-  pub order : Rising os
+-- The list holds the overlaps of the package's leading words by 01's sentence and their inclusions by 02's (P2), all of them and nothing else: every
+-- overlap before every inclusion, by first, then second, then shared or place, all rising.
+pub record OverlapsOf (P : Package) (os : List Pair) : Type 0 where
+  pub all : (o : Pair) → List·Memᴰ o os ↔ IsPair (leads (basis P)) o
+  pub order : Rising (Before (leads (basis P))) os
 
--- A list of overlaps as text: the names line, and below it a line for each, numbered from 1.
-abbrev pub listText : Package → List Overlap → List ℕ
+-- Such a list as text: the names line, and below it a line for each, numbered from 1.
+abbrev pub listText : Package → List Pair → List ℕ
 listText P os = overlapNames ++ (10 ∷ overlapLines (leads (basis P)) 1 os)
 
--- Listing answers with these overlaps: it tells their number, and their text is at the start of the output slice.
+-- Listing answers with these overlaps and inclusions: it tells their number, and their text is at the start of the output slice.
 pub record ListsOverlaps (P : Package) (a : Listed) (before after : List ℕ) : Type 0 where
-  pub rows : List Overlap
+  pub rows : List Pair
   pub exact : OverlapsOf P rows
   pub count : a .overlaps ≡ length rows
   pub size : a .written ≡ length (listText P rows)
   pub output : after ≡ atStart (listText P rows) before
 
--- m steps by 01's rule lead from f to N. Each is the step that the rule names (StepRule: the greatest word that has a leading word inside, at the leftmost
--- place); `stepped` subtracts that word's coefficient × inverse of the leading coefficient × left × basis polynomial × right.
+-- m steps by the rule lead from f to N. Each is the step that the rule names (StepRule: the greatest word that has a leading word inside, at the leftmost
+-- place, and of the polynomials that lead there the one with the lowest number); `stepped` subtracts that word's coefficient × inverse of the leading coefficient × left × basis polynomial × right.
 pub data StepsTo (P : Package) : Poly → ℕ → Poly → Type 0 where
   unmoved : {f : Poly} → StepsTo P f 0 f
   stepThen : {f N : Poly} {m : ℕ} {t : Term} {i n : ℕ} → StepRule wordOrder (basis P) f t i n
@@ -177,13 +182,14 @@ pub record DecidesBySteps (P : Package) (f : Poly) (a : Membership) : Type 0 whe
 
 -- Demand 2. A package is accepted exactly when document 01's facts hold of it; every service refuses exactly when 01 says so, with the number and place
 -- given there; and the overlap list, each rewriting step, the step count, the short form and the yes or no of membership are those of 01's definitions.
--- What document 02 changes of 01 is said where it does: refusal 3 (P9), and refusal 8, steps and differences (P4).
+-- What document 02 changes of 01 is said where it does: refusal 3 (P9); refusal 8, steps and differences (P4); inclusions, and refusal 9, which is no
+-- longer met (P2).
 --
 -- Numbers and places of the check and of listing are those of their definitions (package/specs/Package.antt for 1 to 7, acceptance/specs/Check.antt for 8
--- to 15: the first refusal in 01's order), since each contract is equality with Services.antt. The fields below say the rest, in 01's words.
+-- and 10 to 15: the first refusal in 01's order), since each contract is equality with Services.antt. The fields below say the rest, in 01's words.
 pub record Demand2 : Type 0 where
   pub accepted : (bytes : List ℕ) → (checkedAs bytes .number ≡ 0) ↔ FactsHold bytes
-  pub check-count : (bytes : List ℕ) (P : Package) → AcceptedAs bytes P → (os : List Overlap) × OverlapsOf P os × (checkedAs bytes .overlaps ≡ length os)
+  pub check-count : (bytes : List ℕ) (P : Package) → AcceptedAs bytes P → (os : List Pair) × OverlapsOf P os × (checkedAs bytes .overlaps ≡ length os)
   pub list : (bytes out : List ℕ) → listedAs bytes (length out) .number ≡ 0
       → (P : Package) × (readPackage bytes ≡ read P) × ListsOverlaps P (listedAs bytes (length out)) out (listedInto bytes out)
   -- refusal 3, as document 02 has it (P9): where the bytes are not too many, line 1 is its names, and line 2 has four numbers of which the first is neither
@@ -286,9 +292,8 @@ pub record Demand3 : Type 0 where
 -- listing short words (P7: 24), adding a trail back (P8: 25), carrying short forms (P13: 30 to 32), single coefficients (P14). P8's trail is a second slice
 -- that a refusal leaves unchanged. The ranges above grow where the check, the reader or the steps gain a number (P10: 26, 27; P11: 28, 29).
 --
--- Demand 2 gets what each new answer is by its definition: a completed package is accepted (P1); the list goes on with inclusions (P2); words are counted
--- and listed (P7); a trail gives its formula back (P8); every single change that makes a member is listed, once, and nothing else (P14).
+-- Demand 2 gets what each new answer is by its definition: a completed package is accepted (P1); words are counted and listed (P7); a trail gives its formula back (P8); every single change that makes a member is listed, once, and nothing else (P14).
 --
--- Demand 3 keeps its fields under untrimmed bases (P2) and weights (P10), as it did under any leading coefficient (P4), where `fieldOf`, `wordOrder` and
+-- Demand 3 keeps its fields under weights (P10), as it did under any leading coefficient (P4) and untrimmed bases (P2), where `fieldOf`, `wordOrder` and
 -- `Short` are given by the package. It gains that a formula and its short form act alike on blocks (P5), that the two houses' sums are the same (P11), that
 -- every sequence of steps ends in the service's short form (P12), and that a carried short form is the new one of the original formula (P13).

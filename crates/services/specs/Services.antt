@@ -20,12 +20,12 @@ use Rattle.services.specs.declared.Listed.{Listed}
 use Rattle.services.specs.declared.Shortened.{Shortened}
 use Rattle.services.specs.declared.Membership.{Membership}
 
--- Listing judges refusals 1 to 9 and 19 only. This is what the package's bytes are before 19: refused by one of 1 to 9, or the package.
+-- Listing judges refusals 1 to 8 and 19 only. This is what the package's bytes are before 19: refused by one of 1 to 8, or the package.
 unfoldable pub listable : List ℕ → Outcome
 unfolding judgedBy readPackage basisJudged basis
 listable bytes = judgedBy (λ P. basisJudged (basis P)) (readPackage bytes)
 
--- The check: the overlap count.
+-- The check: the count of overlaps and inclusions.
 unfoldable pub checkAnswer : Outcome → Checked
 unfolding overlaps leads basis
 checkAnswer (refused n k) = record { number = n; place = k; overlaps = 0 }
@@ -36,7 +36,7 @@ unfoldable pub checkedAs : List ℕ → Checked
 unfolding checkAnswer acceptance
 checkedAs bytes = checkAnswer (acceptance bytes)
 
--- Listing the overlaps of leading words: the overlap count and the bytes of the list; 19 where the room is too short, with the bytes required.
+-- Listing the overlaps and inclusions of leading words: their count and the bytes of the list; 19 where the room is too short, with the bytes required.
 unfoldable pub wordsListed : ℕ → List Word → Listed
 unfolding overlaps overlapText
 wordsListed room ws = elim (ltb room (length (overlapText ws))) [

@@ -14,7 +14,7 @@ use Rattle.field.specs.Field.{Operations}
 use Rattle.words.specs.Order.{Order}
 use Rattle.algebra.specs.Poly.{Poly}
 use Rattle.algebra.specs.Ideal.{Family}
-use Rattle.overlaps.specs.Overlaps.{Overlap}
+use Rattle.overlaps.specs.Pairs.{Pair}
 use Rattle.text.specs.Bytes.{within}
 use Rattle.text.proofs.Bytewise.{within-bounds}
 use Rattle.package.specs.declared.Head.{Head}
@@ -134,7 +134,7 @@ sums-skip n k K O G s ss (f ∷ fs) i h =
     rw (sum-skip k i s ss d, sums-skip n k K O G s ss fs (suc i) (λ e. let z = h e in omega arith))
 
 -- A line of an earlier overlap, or of another kind, is none of the overlaps' that are left.
-pub overlaps-skip : (K : Operations) (O : Order) (G : Family) (s : SumLine) (ss : List SumLine) (os : List Overlap) (i : ℕ) → (s .kind ≡ sumO → s .item < i)
+pub overlaps-skip : (K : Operations) (O : Order) (G : Family) (s : SumLine) (ss : List SumLine) (os : List Pair) (i : ℕ) → (s .kind ≡ sumO → s .item < i)
     → overlapsJudged K O G (s ∷ ss) os i ≡ overlapsJudged K O G ss os i
 unfolding overlapsJudged
 overlaps-skip K O G s ss [] i h = refl

@@ -10,7 +10,8 @@ use Rattle.field.specs.Field.{Operations}
 use Rattle.words.specs.Order.{Order}
 use Rattle.algebra.specs.Poly.{Poly}
 use Rattle.algebra.specs.Ideal.{Family, family}
-use Rattle.overlaps.specs.Overlaps.{Overlap, leads, overlaps}
+use Rattle.overlaps.specs.Pairs.{Pair}
+use Rattle.overlaps.specs.Overlaps.{leads, overlaps}
 use Rattle.package.specs.Names.{sumO}
 use Rattle.package.specs.Sums.{SumLine}
 use Rattle.acceptance.specs.Check.{Verdict, refusal, fine, thenJudge, sumsJudged, Side, sides, kindsJudged, itemsJudged, overlapsJudged, sumsVerdict}
@@ -61,7 +62,7 @@ module _ (K : Operations) (O : Order) where
     past-items count d all-left = refl
     past-items count d (one-past {s} {ss} {rest} e p) = let n : s .kind ≢ sumO = λ q. d (sym e ∙ q) in rw (itemsJudged, ne-eqb (s .kind) sumO n) (past-items count d p)
 
-    past-overlaps : (G : Family) (os : List Overlap) → k ≢ sumO → {ss rest : List SumLine} → Past k ss rest → overlapsJudged K O G ss os 1 ≡ overlapsJudged K O G rest os 1
+    past-overlaps : (G : Family) (os : List Pair) → k ≢ sumO → {ss rest : List SumLine} → Past k ss rest → overlapsJudged K O G ss os 1 ≡ overlapsJudged K O G rest os 1
     past-overlaps G os d all-left = refl
     past-overlaps G os d (one-past {s} {ss} {rest} e p) = overlaps-skip K O G s ss os 1 (λ q. absurd (d (sym e ∙ q))) ∙ past-overlaps G os d p
 

@@ -1,28 +1,28 @@
--- The factors of an overlap, cut from its leading words, and the overlap word that they make.
-use mathlib.Core.Path.{_≡_, sym, ap, _∙_}
+-- The factors of a pair, cut from its leading words, and the overlap word that they make.
+use mathlib.Core.Path.{_≡_, refl, sym, ap, _∙_}
 use mathlib.Core.List.{List, [], _∷_, map, _++_}
-use Prim.Native.Nat.{ℕ, suc, _+_, _-_, _*_, _%_, _≤_}
+use Prim.Native.Nat.{ℕ, suc, _+_, _-_, _*_, _%_, _≤_, _<_, min}
+use native.Mathlib.Decide.{decLt}
 use native.Mathlib.Numerals.{add-one}
 use native.Mathlib.Omega.{arith}
-use lib.ListN.{length, getD, take, drop, replicate, length-append}
-use lib.Seq.{drop-cons}
+use lib.ListN.{length, getD, take, drop, replicate, length-append, drop-of-length-le}
+use lib.Seq.{drop-cons, drop-length}
 use Rattle.lists.proofs.Maps.{map-take, map-drop}
 use Rattle.lists.proofs.Parts.{part-length}
 use Rattle.words.specs.Word.{Word, around}
 use Rattle.algebra.specs.Ideal.{family}
-use Rattle.overlaps.specs.Overlaps.{overlapWord}
-use Rattle.overlaps.specs.Position.{overlapOf}
-use Rattle.overlapwords.specs.declared.OverlapAt.{OverlapAt}
-use Rattle.overlapwords.specs.OverlapPlaces.{cursorOf}
+use Rattle.overlaps.specs.Overlaps.{overlapWord, restOf, frontOf, backOf}
+use Rattle.overlapsearch.specs.declared.PairAt.{PairAt}
+use Rattle.overlapsearch.specs.Position.{pairOf}
 use Rattle.packedwords.specs.Packed.{unpacked, Packs}
 use Rattle.packedwords.proofs.Blocks.{packs-widen}
 use Rattle.table.specs.Polynomials.{basisIn}
 use Rattle.table.specs.Table.{gensIn, letterIn, firstIn, sizeIn, blocksIn}
 use Rattle.table.specs.Tabled.{Tabled}
 use Rattle.table.proofs.LeadingTerms.{LeadTerm}
-use Rattle.table.proofs.WordSizes.{even-size, even-held}
+use Rattle.table.proofs.WordSizes.{even-held}
 use Rattle.tablesums.specs.Leading.{leadIn}
-use Rattle.tablesums.specs.Factors.{behindOf}
+use Rattle.tablesums.specs.Factors.{LeadPacked}
 use Rattle.tablesums.specs.ShortWords.{ShortWord}
 
 -- Two entries of a table.
@@ -31,76 +31,87 @@ two-entries t at h =
     ap (take 2) (drop-cons t at 0 (omega arith)) ∙ ap (λ (u : List ℕ). getD t at 0 ∷ take 1 u) (drop-cons t (suc at) 0 (omega arith))
     ∙ ap (λ (k : ℕ). getD t at 0 ∷ getD t k 0 ∷ []) (sym (add-one at))
 
-module _ {t : List ℕ} (T : Tabled t) where
-  -- n codes in six blocks hold the word of their letters, of size 257 × n.
-  part-short : (n x : ℕ) (bs : List ℕ) (u : Word) → n ≤ 24 → length bs ≡ 6 → Packs n bs → map (letterIn t) (unpacked n bs) ≡ u → x ≡ 257 * n → ShortWord t u x bs
-  part-short n x bs u few six packs word e =
-      let letters : 257 * n % 256 ≡ n = omega arith in
-      rw e (record {
-        short = record {
-          six = record { six = six; short = omega (arith, letters); held = even-held t (T .keys) n bs (omega arith) packs };
-          few = omega (arith, letters);
-        };
-        word = ap (λ (k : ℕ). map (letterIn t) (unpacked k bs)) letters ∙ word;
-      })
+-- Letters behind the end of a word are none.
+drop-least : (k : ℕ) (w : Word) → drop (min k (length w)) w ≡ drop k w
+drop-least k w = go (decLt k (length w))
+  where
+    go : Dec (k < length w) → drop (min k (length w)) w ≡ drop k w
+    go (yes l) = let e : min k (length w) ≡ k = omega arith in rw e
+    go (no l) =
+        let e : min k (length w) ≡ length w = omega arith in
+        let m : length w ≤ k = omega arith in
+        rw (e, drop-length w) (sym (drop-of-length-le w m))
 
-  -- The leading word of basis polynomial g, of size z, copied to six blocks.
-  module _ (g : ℕ) (L : LeadTerm t g) (item z : ℕ) (word : List ℕ) (n : item ≡ gensIn t + g) (e : z ≡ sizeIn t (firstIn t item))
-      (w : word ≡ blocksIn t (firstIn t item) ++ replicate 4 0) where
-    abbrev first : ℕ
-    first = firstIn t (gensIn t + g)
+module _ {t : List ℕ} (T : Tabled t) (g : ℕ) where
+  -- The leading word of basis polynomial g, copied to six blocks.
+  pub lead-packed : (L : LeadTerm t g) (z : ℕ) (word : List ℕ) → z ≡ sizeIn t (firstIn t (gensIn t + g)) → word ≡ blocksIn t (firstIn t (gensIn t + g)) ++ replicate 4 0
+      → LeadPacked t g (z % 256) word
+  lead-packed L z word e w = rw (e, w) (record {
+    letters = L .letters;
+    few = T .short first (L .inside);
+    six = six;
+    packs = widened .0;
+    word = ap (map (letterIn t)) (widened .1) ∙ L .word;
+  })
+    where
+      first : ℕ
+      first = firstIn t (gensIn t + g)
 
-    size-is : z ≡ sizeIn t first
-    size-is = e ∙ ap (λ (k : ℕ). sizeIn t (firstIn t k)) n
+      widened : Packs (sizeIn t first % 256) (blocksIn t first ++ replicate 4 0)
+          × (unpacked (sizeIn t first % 256) (blocksIn t first ++ replicate 4 0) ≡ unpacked (sizeIn t first % 256) (blocksIn t first))
+      widened = packs-widen (sizeIn t first % 256) (blocksIn t first) (T .held first (L .inside) .packs) 4
 
-    blocks-are : word ≡ blocksIn t first ++ replicate 4 0
-    blocks-are = w ∙ ap (λ (k : ℕ). blocksIn t (firstIn t k) ++ replicate 4 0) n
+      six : length (blocksIn t first ++ replicate 4 0) ≡ 6
+      six =
+          let inside = L .inside in
+          let most = T .terms in
+          let size = T .size in
+          let none : ℕ = 0 in
+          length-append (blocksIn t first) (replicate 4 none) ∙ ap (λ (k : ℕ). k + 4) (part-length (353 + 3 * first) 2 t (omega arith))
 
-    widened : Packs (z % 256) word × (unpacked (z % 256) word ≡ unpacked (z % 256) (blocksIn t first))
-    widened = rw (blocks-are, size-is) (packs-widen (sizeIn t first % 256) (blocksIn t first) (T .held first (L .inside) .packs) 4)
+  module _ {n : ℕ} {word : List ℕ} (P : LeadPacked t g n word) (bs : List ℕ) (six : length bs ≡ 6) where
+    -- k codes in six blocks hold the word of their letters, of size 257 × k
+    part : (k : ℕ) → k ≤ n → (u : Word) → Packs k bs → map (letterIn t) (unpacked k bs) ≡ u → ShortWord t u (257 * k) bs
+    part k l u packs word =
+        let letters : 257 * k % 256 ≡ k = let f = P .few in omega arith in
+        let few = P .few in
+        record {
+          short = record {
+            six = record { six = six; short = omega (arith, letters); held = even-held t (T .keys) k bs (omega arith) packs };
+            few = omega (arith, letters);
+          };
+          word = ap (λ (j : ℕ). map (letterIn t) (unpacked j bs)) letters ∙ word;
+        }
 
-    pub copied-six : length word ≡ 6
-    copied-six =
-        let inside = L .inside in
-        let most = T .terms in
-        let size = T .size in
-        let none : ℕ = 0 in
-        ap length blocks-are ∙ length-append (blocksIn t first) (replicate 4 none)
-        ∙ ap (λ (k : ℕ). k + 4) (part-length (353 + 3 * first) 2 t (omega arith))
+    -- its first k letters, and those behind the first k, as the code cuts them
+    pub front-short : (k : ℕ) → k ≤ length (leadIn t g) → Packs k bs → unpacked k bs ≡ take k (unpacked n word) → ShortWord t (take k (leadIn t g)) (257 * k) bs
+    front-short k l packs q =
+        let m = P .letters in
+        part k (omega arith) (take k (leadIn t g)) packs (ap (map (letterIn t)) q ∙ map-take (letterIn t) k (unpacked n word) ∙ ap (take k) (P .word))
 
-    pub copied-packs : Packs (z % 256) word
-    copied-packs = widened .0
+    pub back-short : (k i : ℕ) → i ≡ min k n → Packs (n - i) bs → unpacked (n - i) bs ≡ drop i (unpacked n word) → ShortWord t (drop k (leadIn t g)) (257 * (n - i)) bs
+    back-short k i e packs q =
+        part (n - i) (omega arith) (drop k (leadIn t g)) packs
+        (ap (map (letterIn t)) q ∙ map-drop (letterIn t) i (unpacked n word) ∙ ap (drop i) (P .word)
+        ∙ ap (λ (j : ℕ). drop j (leadIn t g)) (e ∙ ap (min k) (sym (P .letters)))
+        ∙ drop-least k (leadIn t g))
 
-    pub copied-few : z % 256 ≤ 24
-    copied-few = rw size-is (T .short first (L .inside))
+-- What is cut from the leading words of a pair are its factors.
+module _ (t : List ℕ) (f : PairAt) where
+  pub front-cut : take (f .at) (leadIn t (suc (f .first))) ≡ frontOf (family (basisIn t)) (pairOf f)
+  unfolding frontOf
+  front-cut = refl
 
-    pub copied-letters : length (leadIn t g) ≡ z % 256
-    copied-letters = rw size-is (L .letters)
+  pub back-cut : (n : ℕ) → n ≡ length (leadIn t (suc (f .second))) → drop (f .at + n) (leadIn t (suc (f .first))) ≡ backOf (family (basisIn t)) (pairOf f)
+  unfolding backOf
+  back-cut n e = ap (λ (k : ℕ). drop (f .at + k) (leadIn t (suc (f .first)))) e
 
-    pub copied-size : z ≡ 257 * (z % 256)
-    copied-size = rw size-is (even-size t (T .keys) (sizeIn t first) (blocksIn t first) (T .held first (L .inside)))
+  pub rest-cut : drop (f .shared) (leadIn t (suc (f .second))) ≡ restOf (family (basisIn t)) (pairOf f)
+  unfolding restOf
+  rest-cut = refl
 
-    word-is : map (letterIn t) (unpacked (z % 256) word) ≡ leadIn t g
-    word-is = ap (map (letterIn t)) (widened .1) ∙ rw size-is (L .word)
-
-    -- its parts around s letters, as the code cuts them
-    module _ (s : ℕ) (h : s ≤ z % 256) (bs : List ℕ) (six : length bs ≡ 6) (packs : Packs (z % 256 - s) bs) where
-      abbrev k : ℕ
-      k = z % 256 - s
-
-      part : (u : Word) → map (letterIn t) (unpacked k bs) ≡ u → ShortWord t u (z - 257 * s) bs
-      part u word = let few = copied-few in part-short k (z - 257 * s) bs u (omega arith) six packs word (omega (arith, copied-size))
-
-      pub front-short : unpacked k bs ≡ take k (unpacked (z % 256) word) → ShortWord t (take (length (leadIn t g) - s) (leadIn t g)) (z - 257 * s) bs
-      front-short q = part _
-          (ap (map (letterIn t)) q ∙ map-take (letterIn t) k (unpacked (z % 256) word) ∙ ap (take k) word-is
-          ∙ ap (λ (m : ℕ). take (m - s) (leadIn t g)) (sym copied-letters))
-
-      pub rest-short : unpacked k bs ≡ drop s (unpacked (z % 256) word) → ShortWord t (drop s (leadIn t g)) (z - 257 * s) bs
-      rest-short q = part _ (ap (map (letterIn t)) q ∙ map-drop (letterIn t) s (unpacked (z % 256) word) ∙ ap (drop s) word-is)
-
--- The first leading word and the right factor are the overlap word.
-pub overlap-made : (t : List ℕ) (f : OverlapAt) (u v w : Word) → u ≡ [] → v ≡ behindOf t f → w ≡ leadIn t (suc (f .first))
-    → around u v w ≡ overlapWord (family (basisIn t)) (overlapOf (cursorOf f))
-unfolding overlapWord
+-- The first leading word and the rest of the second are the overlap word.
+pub overlap-made : (t : List ℕ) (f : PairAt) (u v w : Word) → u ≡ [] → v ≡ restOf (family (basisIn t)) (pairOf f) → w ≡ leadIn t (suc (f .first))
+    → around u v w ≡ overlapWord (family (basisIn t)) (pairOf f)
+unfolding overlapWord restOf
 overlap-made t f u v w a b c = rw (a, b, c)

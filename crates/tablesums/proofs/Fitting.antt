@@ -1,5 +1,5 @@
 -- Short words around a word of a table, and the empty word.
-use mathlib.Core.Path.{_≡_, refl}
+use mathlib.Core.Path.{_≡_, refl, _∙_}
 use mathlib.Core.List.{List, [], _∷_}
 use Prim.Native.Nat.{ℕ, suc, _%_, _≤_}
 use native.Mathlib.Omega.{arith}
@@ -34,3 +34,7 @@ empty-short t = record {
   };
   word = refl;
 }
+
+-- A short word is what its letters are.
+pub short-as : {t : List ℕ} {u v : Word} {z : ℕ} {bs : List ℕ} → u ≡ v → ShortWord t u z bs → ShortWord t v z bs
+short-as e h = record { short = h .short; word = h .word ∙ e }

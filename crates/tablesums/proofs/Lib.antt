@@ -5,4 +5,5 @@ pub mod TakenLines
 pub mod LeadingWords
 mod CutFactors
 mod Comparisons
+mod OverlapDifference
 mod Differences

@@ -1,23 +1,23 @@
--- The factors of an overlap: first leading word × right and left × second leading word are the overlap word.
-use mathlib.Core.List.{List}
-use Prim.Native.Nat.{ℕ, suc, _-_, _≤_, _<_}
-use lib.ListN.{length, take, drop}
-use Rattle.words.specs.Word.{Word}
-use Rattle.overlapwords.specs.declared.OverlapAt.{OverlapAt}
-use Rattle.table.specs.Table.{basisCountIn}
+-- What is cut from the two leading words of a pair.
+use mathlib.Core.Path.{_≡_}
+use mathlib.Core.List.{List, map}
+use Prim.Native.Nat.{ℕ, suc, _≤_, _<_}
+use lib.ListN.{length}
+use Rattle.overlapsearch.specs.declared.PairAt.{PairAt}
+use Rattle.packedwords.specs.Packed.{unpacked, Packs}
+use Rattle.table.specs.Table.{basisCountIn, letterIn}
 use Rattle.tablesums.specs.Leading.{leadIn}
 
--- The left factor: what the first leading word has before the shared letters.
-abbrev pub frontOf : List ℕ → OverlapAt → Word
-frontOf t f = take (length (leadIn t (suc (f .first))) - f .shared) (leadIn t (suc (f .first)))
+-- Six blocks hold the leading word of basis polynomial g, of n letters, which are at most 24.
+pub record LeadPacked (t : List ℕ) (g n : ℕ) (bs : List ℕ) : Type 0 where
+  pub letters : length (leadIn t g) ≡ n
+  pub few : n ≤ 24
+  pub six : length bs ≡ 6
+  pub packs : Packs n bs
+  pub word : map (letterIn t) (unpacked n bs) ≡ leadIn t g
 
--- The right factor: what the second leading word has behind them.
-abbrev pub behindOf : List ℕ → OverlapAt → Word
-behindOf t f = drop (f .shared) (leadIn t (suc (f .second)))
-
--- The two polynomials of an overlap are of the basis, and their leading words have the letters that they are to share.
-pub record Lapping (t : List ℕ) (f : OverlapAt) : Type 0 where
+-- The two polynomials of a pair are of the basis, and the second leading word begins in the first, or at its end.
+pub record Lapping (t : List ℕ) (f : PairAt) : Type 0 where
   pub first : f .first < basisCountIn t
   pub second : f .second < basisCountIn t
-  pub shared-first : f .shared ≤ length (leadIn t (suc (f .first)))
-  pub shared-second : f .shared ≤ length (leadIn t (suc (f .second)))
+  pub begins : f .at ≤ length (leadIn t (suc (f .first)))

@@ -1,8 +1,8 @@
 //! Checking a package: refusals 8 to 15 of a package that reads, in their order.
 
 use crate::coefficients::negative;
-use crate::leads::judge_leads;
-use crate::overlaps::{overlaps, Overlap};
+use crate::leads::judge_zeros;
+use crate::list::{differences, list, Entry};
 use crate::package::{read, Package, SumLine};
 use crate::poly::{add_multiple, lead_word, Poly};
 use crate::refusal::{refuse, Refusal};
@@ -10,17 +10,17 @@ use crate::refusal::{refuse, Refusal};
 /// The most terms that target minus sum may have after a sum line.
 const SUM_TERMS: usize = 512;
 
-/// Reads and checks a package. Gives it with its overlaps when every fact of acceptance holds.
-pub fn accept(bytes: &[u8]) -> Result<(Package, Vec<Overlap>), Refusal> {
+/// Reads and checks a package. Gives it with its list when every fact of acceptance holds.
+pub fn accept(bytes: &[u8]) -> Result<(Package, Vec<Entry>), Refusal> {
     let package = read(bytes)?;
-    judge_leads(&package)?;
-    let list = overlaps(&package.basis);
+    judge_zeros(&package)?;
+    let list = list(&package.basis);
     judge_sums(&package, &list)?;
     Ok((package, list))
 }
 
 /// B items (10, 11), G items (10, 12), then 15, then O items (14, 10, 13).
-fn judge_sums(package: &Package, list: &[Overlap]) -> Result<(), Refusal> {
+fn judge_sums(package: &Package, list: &[Entry]) -> Result<(), Refusal> {
     let Package { p, relations, basis, .. } = package;
     for (item, (target, lines)) in (1..).zip(basis.iter().zip(&package.b_sums)) {
         judge_sum(*p, target.clone(), lines, relations, (11, item), |_| true)?;
@@ -33,14 +33,14 @@ fn judge_sums(package: &Package, list: &[Overlap]) -> Result<(), Refusal> {
         return refuse(15, lines[0].line);
     }
     let no_lines = Vec::new();
-    for (item, overlap) in (1..).zip(list) {
+    for (item, (entry, difference)) in (1..).zip(list.iter().zip(differences(*p, basis, list))) {
         let lines = package.o_sums.get(&item).unwrap_or(&no_lines);
-        let top = overlap.word(basis);
+        let top = entry.word(basis);
         let below = |sum: &SumLine| {
             let lead = lead_word(&basis[sum.of as usize - 1]);
             sum.left.times(lead).times(&sum.right) < top
         };
-        judge_sum(*p, overlap.difference(*p, basis), lines, basis, (13, item), below)?;
+        judge_sum(*p, difference, lines, basis, (13, item), below)?;
     }
     Ok(())
 }

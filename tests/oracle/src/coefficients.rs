@@ -60,10 +60,10 @@ fn times_256(a: u64, b: u64) -> u64 {
 }
 
 /// The inverse of an element that is not 0: its power p - 2, since its power p - 1 is 1 in every field of p
-/// elements.
+/// elements. There are 16 bits in p - 2 at most.
 pub fn inverse(p: u64, a: u64) -> u64 {
     let mut result = 1;
-    for bit in (0..64).rev() {
+    for bit in (0..16).rev() {
         result = times(p, result, result);
         if (p - 2) >> bit & 1 == 1 {
             result = times(p, result, a);

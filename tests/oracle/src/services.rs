@@ -2,8 +2,8 @@
 
 use crate::check::accept;
 use crate::formula::{formula_text, read_formula};
-use crate::leads::judge_leads;
-use crate::overlaps::{list_text, overlaps};
+use crate::leads::judge_zeros;
+use crate::list::{list, list_text};
 use crate::package::{read, PACKAGE_BYTES};
 use crate::refusal::{refuse, Refusal};
 use crate::steps::{run, Reduced};
@@ -13,7 +13,7 @@ use crate::steps::{run, Reduced};
 pub struct Answer {
     pub number: u64,
     pub place: u64,
-    /// Overlaps for check and listing, steps for short form and membership.
+    /// Entries of the list for check and listing, steps for short form and membership.
     pub count: u64,
     /// Membership only: 1 for yes, 0 for no.
     pub member: u64,
@@ -34,17 +34,17 @@ impl Answer {
     }
 }
 
-/// Check: number, place, overlaps.
+/// Check: number, place, entries of the list.
 pub fn check(package: &[u8]) -> Answer {
     Answer::of(accept(package).map(|(_, list)| Answer { count: list.len() as u64, ..Answer::default() }))
 }
 
-/// Listing: number, place, overlaps, output. It judges 1 to 9 and 19.
+/// Listing: number, place, entries, output. It judges 1 to 8 and 19.
 pub fn list_overlaps(package: &[u8], out_len: usize) -> Answer {
     let result = || {
         let package = read(package)?;
-        judge_leads(&package)?;
-        let list = overlaps(&package.basis);
+        judge_zeros(&package)?;
+        let list = list(&package.basis);
         let output = fitting(list_text(&list, &package.basis), out_len)?;
         Ok(Answer { count: list.len() as u64, output, ..Answer::default() })
     };

@@ -18,23 +18,32 @@ struct Site {
     right: Word,
 }
 
-/// The greatest word of f that has a leading word inside, at the leftmost place.
-fn next_site(f: &Poly, basis: &[Poly]) -> Option<Site> {
-    f.keys().rev().find_map(|word| leftmost(word, basis))
-}
+/// Where a leading word stands in a word: the place, and the index of its polynomial.
+pub type Found = (usize, usize);
 
-fn leftmost(word: &Word, basis: &[Poly]) -> Option<Site> {
+/// What is taken of a word's leading words inside, if there is one.
+pub type Rule = fn(&Word, &[Poly]) -> Option<Found>;
+
+/// The leftmost place; of polynomials that match there, the one with the lower number.
+pub fn leftmost(word: &Word, basis: &[Poly]) -> Option<Found> {
     for begin in 0..=word.len() {
         for (index, g) in basis.iter().enumerate() {
-            let lead = lead_word(g);
-            if word.0[begin..].starts_with(&lead.0) {
-                let left = Word(word.0[..begin].to_vec());
-                let right = Word(word.0[begin + lead.len()..].to_vec());
-                return Some(Site { word: word.clone(), basis: index, left, right });
+            if word.0[begin..].starts_with(&lead_word(g).0) {
+                return Some((begin, index));
             }
         }
     }
     None
+}
+
+/// The greatest word of f that has a leading word inside, where the rule finds one.
+fn next_site(f: &Poly, basis: &[Poly], rule: Rule) -> Option<Site> {
+    f.keys().rev().find_map(|word| {
+        let (begin, index) = rule(word, basis)?;
+        let left = Word(word.0[..begin].to_vec());
+        let right = Word(word.0[begin + lead_word(&basis[index]).len()..].to_vec());
+        Some(Site { word: word.clone(), basis: index, left, right })
+    })
 }
 
 /// A short form and the steps to it.
@@ -45,12 +54,17 @@ pub struct Reduced {
     pub divided: u64,
 }
 
-/// Brings f to its short form under an accepted package. A step takes away the word's coefficient × the inverse
-/// of the leading coefficient × left × basis polynomial × right.
-pub fn run(package: &Package, mut f: Poly, budget: u64) -> Result<Reduced, Refusal> {
+/// Brings f to its short form under an accepted package.
+pub fn run(package: &Package, f: Poly, budget: u64) -> Result<Reduced, Refusal> {
+    run_by(leftmost, package, f, budget)
+}
+
+/// The same by any rule. A step takes away the word's coefficient × the inverse of the leading coefficient × left ×
+/// basis polynomial × right.
+pub fn run_by(rule: Rule, package: &Package, mut f: Poly, budget: u64) -> Result<Reduced, Refusal> {
     let p = package.p;
     let (mut steps, mut divided) = (0, 0);
-    while let Some(site) = next_site(&f, &package.basis) {
+    while let Some(site) = next_site(&f, &package.basis, rule) {
         if steps == budget {
             return refuse(18, budget);
         }

@@ -2,10 +2,11 @@
 //!
 //! A case has `service` (check, list_overlaps, short_form, member, print), `package` and `formula` in hex,
 //! `budget` and `out_len`, and its answer: `number` and `place`, then `overlaps`, `count`, `steps` and `yes`
-//! where the service has them, and `output` in hex.
+//! where the service has them, and `output` in hex, or of a long one `output_len` and `output_sha256`.
 
 use oracle::json::{hex, object, Object};
 use oracle::services;
+use oracle::sha256::sha256;
 use std::collections::BTreeMap;
 use std::process::exit;
 
@@ -69,8 +70,10 @@ fn difference(case: &Object) -> Option<String> {
     if (answer.number, answer.place, answer.count) != stored {
         return Some(format!("the oracle gives {answer:?}, stored is {stored:?}"));
     }
-    if answer.output.unwrap_or_default() != bytes("output") {
-        return Some("the bytes written differ".to_string());
-    }
-    None
+    let output = answer.output.unwrap_or_default();
+    let same = match case.get("output_sha256") {
+        Some(digest) => output.len() as u64 == number("output_len") && sha256(&output) == *digest,
+        None => output == bytes("output"),
+    };
+    (!same).then(|| "the bytes written differ".to_string())
 }

@@ -1,11 +1,12 @@
 //! Packages on both sides of the bounds on sizes.
 
 use crate::coefficients::{add, negative, GF_256};
+use crate::generate::crowded::crowded;
 use crate::generate::draft::{Draft, Sum, Term};
 use crate::generate::dress::add_cancelling;
 use crate::generate::edits::E;
 use crate::generate::families::{copies_of_e, monomials, without_overlaps};
-use crate::generate::growth::{growing_sum, Lines};
+use crate::generate::growth::{growing_sum, Lines, TARGETS};
 use crate::generate::package_rows::Row;
 use crate::generate::random::Random;
 use crate::generate::rows_256::e_256;
@@ -29,14 +30,15 @@ pub fn bound_packages() -> Vec<Row> {
         let mut basis_49 = one_polynomial(p, 48);
         basis_49.terms.push(Term { kind: 'B', item: 1, coef: 1, word: Word::empty() });
         put(basis_49.text(), 7, 100, 0);
-        // 512 and 513 terms in a sum of each kind, also with other leading coefficients than 1. The lines stand
+        // 512 and 513 terms in a sum for each target, also with other leading coefficients than 1. The lines stand
         // below 4 names lines and values, terms, and the sums above.
-        for kind in ['B', 'G', 'O'] {
+        for target in TARGETS {
             for top in [512, 513] {
-                let mut draft = growing_sum(random, p, kind, top, Lines::UpAndDown);
+                let mut draft = growing_sum(random, p, target, top, Lines::UpAndDown);
                 let first = draft.sums.iter().position(|sum| sum.left == Word::new("c"));
                 let line = 4 + draft.terms.len() + first.expect("a growing line") + 11;
-                let (number, place, overlaps) = if top == 512 { (0, 0, 4) } else { (10, line as u64, 0) };
+                let (number, place, overlaps) =
+                    if top == 512 { (0, 0, target.entries()) } else { (10, line as u64, 0) };
                 put(draft.text(), number, place, overlaps);
                 scale_all(random, &mut draft);
                 put(draft.text(), number, place, overlaps);
@@ -73,7 +75,7 @@ pub fn bound_packages() -> Vec<Row> {
         put([&full[..], b"\n"].concat(), 2, lines + 1, 0);
     }
     // Many overlaps: 4,324 where the shared letters are all `a`, and 276 where they hold the `b`. The list of
-    // these 24 words has 250,130 bytes.
+    // these 24 words has 263,477 bytes.
     let words: Vec<Word> = (0..24).map(|i| one_other(i, b'b')).collect();
     let many = monomials(7, 2, &words);
     put(many.text(), 0, 0, 4600);
@@ -84,7 +86,8 @@ pub fn bound_packages() -> Vec<Row> {
     add_cancelling(&mut over_count, 'O', 4601, 3, &Word::empty(), 1, &Word::empty());
     let line = 4 + over_count.terms.len() + 48 + 1;
     put(over_count.text(), 15, line as u64, 0);
-    // 64 basis polynomials of this kind, for the listing: there are no relations, so the first sum is wrong.
+    // 64 basis polynomials of this kind, for the listing, which has 1,872,014 bytes: there are no relations, so the
+    // first sum is wrong.
     let basis: Vec<Poly> =
         (0..64).map(|i| Poly::from([(one_other(i % 24, b'b' + i as u8 / 24), 1)])).collect();
     put(Draft::of(7, 4, &[], &basis).text(), 11, 1, 0);
@@ -96,9 +99,9 @@ fn one_other(place: usize, letter: u8) -> Word {
     Word([vec![b'a'; place], vec![letter], vec![b'a'; 23 - place]].concat())
 }
 
-/// A package near a bound on sizes: terms in an item, term lines, or bytes.
+/// A package near a bound on sizes: terms in an item, term lines, basis polynomials and words, or bytes.
 pub fn near_bound(random: &mut Random, p: u64) -> Vec<u8> {
-    let mut draft = match random.below(3) {
+    let mut draft = match random.below(4) {
         0 => one_polynomial(p, random.between(46, 50) as usize),
         1 => {
             let mut draft = without_overlaps(random, p, 32, 16).expect("no overlaps");
@@ -108,6 +111,7 @@ pub fn near_bound(random: &mut Random, p: u64) -> Vec<u8> {
             }
             draft
         }
+        2 => crowded(random, p),
         _ => return padded_e(p, random.between(65_530, 65_540) as usize),
     };
     scale_some(random, &mut draft);
@@ -172,6 +176,6 @@ mod tests {
         }
         let places: Vec<u64> =
             bound_packages().iter().map(|row| list_overlaps(&row.package, 0).place).collect();
-        assert!(places.contains(&250_130) && places.iter().any(|place| *place > 1_000_000));
+        assert!(places.contains(&263_477) && places.contains(&1_872_014));
     }
 }

@@ -2,7 +2,7 @@
 
 use crate::coefficients::{add, inverse, negative, times};
 use crate::generate::draft::{Draft, Sum};
-use crate::overlaps::overlaps;
+use crate::list::{differences, list};
 use crate::package::LETTERS;
 use crate::poly::{add_multiple, lead_coef, lead_word, Poly};
 use crate::word::Word;
@@ -79,8 +79,11 @@ pub fn reduce(p: u64, f: &mut Poly, basis: &[Poly], whole: bool, limit: usize) -
     }
 }
 
+/// So many lines have over 60,000 bytes, since none has fewer than twelve.
+const SUM_LINES: usize = 5_000;
+
 /// The draft of relations and a basis with B, G and O sums. `b_sums` says how each basis polynomial is a sum
-/// over the relations. None: a relation or a difference does not reduce to zero, or a word is too long.
+/// over the relations. None: a relation or a difference does not reduce to zero, or a word or the text is too long.
 pub fn certified(
     p: u64,
     letters: u64,
@@ -94,14 +97,14 @@ pub fn certified(
             draft.sums.push(Sum::new('B', item, *coef, left, *of, right));
         }
     }
-    let differences: Vec<Poly> = overlaps(basis).iter().map(|overlap| overlap.difference(p, basis)).collect();
+    let differences: Vec<Poly> = differences(p, basis, &list(basis)).collect();
     for (kind, targets) in [('G', relations), ('O', &differences)] {
         for (item, target) in (1..).zip(targets) {
             let mut rest = target.clone();
             for Taken { coef, left, index, right } in reduce(p, &mut rest, basis, true, 400)? {
                 draft.sums.push(Sum::new(kind, item, coef, &left, index as u64 + 1, &right));
             }
-            if !rest.is_empty() {
+            if !rest.is_empty() || draft.sums.len() > SUM_LINES {
                 return None;
             }
         }

@@ -1,12 +1,11 @@
 //! Damage to a package with a refusal in view: each target changes what that refusal judges.
 
-use crate::coefficients::{inverse, negative};
-use crate::generate::damage_scale::{in_field, scale_difference, scale_lead, scale_without};
+use crate::generate::damage_list::{above_count, not_below};
+use crate::generate::damage_scale::{scale_difference, scale_lead, scale_without};
 use crate::generate::draft::{Draft, Sum, Term};
-use crate::generate::dress::add_cancelling;
+use crate::generate::other_lists::other_list;
 use crate::generate::random::Random;
-use crate::overlaps::{overlaps, Overlap};
-use crate::poly::{lead, lead_coef, lead_word, Poly};
+use crate::poly::lead;
 use crate::word::Word;
 
 /// Numbers in place of p: some fields, and what is near them, out of bounds, or a power of a prime.
@@ -15,32 +14,53 @@ const P_VALUES: [u64; 20] = [
     99_999,
 ];
 
-/// Changes the draft towards one of the refusals 3 to 15 (1 and 2 are reached by damage to the text, 7 and
-/// 10 by packages of their own). The draft may stay as it was when it has nothing to change.
-pub fn aim(random: &mut Random, draft: &mut Draft, number: u64) {
+/// What is changed: what a refusal judges (1 and 2 are reached by damage to the text, 7 and 10 by packages of their
+/// own), a leading word, the polynomials' order, or any coefficient.
+#[derive(Clone, Copy)]
+pub enum Aim {
+    P,
+    Counts,
+    Bounds,
+    Order,
+    Zero,
+    BasisSum,
+    RelationSum,
+    ListSum,
+    OtherList,
+    NotBelow,
+    AboveCount,
+    LeadingWord,
+    Exchange,
+    Coefficient,
+}
+
+/// Changes the draft with an aim. It may stay as it was when it has nothing to change.
+pub fn aim(random: &mut Random, draft: &mut Draft, at: Aim) {
     if draft.p < 2 || !(1..=26).contains(&draft.letters) {
         // Damaged before: there are no coefficients or no letters to choose from.
         return;
     }
-    match number {
-        3 => draft.p = *random.pick(&P_VALUES),
-        4 => match random.below(4) {
+    match at {
+        Aim::P => draft.p = *random.pick(&P_VALUES),
+        Aim::Counts => match random.below(4) {
             0 => draft.letters = *random.pick(&[0, 27, 99_999]),
             1 => draft.gens = *random.pick(&[33, 64, 65_537]),
             2 => draft.basis = *random.pick(&[65, 256, 65_600]),
             _ => (draft.p, draft.letters) = (*random.pick(&[9, 256]), 27),
         },
-        5 => out_of_bounds(random, draft),
-        6 => out_of_order(random, draft),
-        8 => zero_polynomial(random, draft),
-        9 => holding_lead(random, draft),
-        11 => wrong_sum(random, draft, 'B'),
-        12 => wrong_sum(random, draft, 'G'),
-        13 => wrong_sum(random, draft, 'O'),
-        14 => not_below(random, draft),
-        15 => above_count(random, draft),
-        _ if random.one_in(3) => scale_lead(random, draft),
-        _ => change_coefficient(random, draft),
+        Aim::Bounds => out_of_bounds(random, draft),
+        Aim::Order => out_of_order(random, draft),
+        Aim::Zero => zero_polynomial(random, draft),
+        Aim::BasisSum => wrong_sum(random, draft, 'B'),
+        Aim::RelationSum => wrong_sum(random, draft, 'G'),
+        Aim::ListSum => wrong_sum(random, draft, 'O'),
+        Aim::OtherList => other_list(random, draft),
+        Aim::NotBelow => not_below(random, draft),
+        Aim::AboveCount => above_count(random, draft),
+        Aim::LeadingWord => other_lead(random, draft),
+        Aim::Exchange => exchange(random, draft),
+        Aim::Coefficient if random.one_in(3) => scale_lead(random, draft),
+        Aim::Coefficient => change_coefficient(random, draft),
     }
 }
 
@@ -103,8 +123,8 @@ fn zero_polynomial(random: &mut Random, draft: &mut Draft) {
     }
 }
 
-/// A leading word with another's inside, or equal to it, or just not.
-fn holding_lead(random: &mut Random, draft: &mut Draft) {
+/// A leading word with another's inside, or equal to it, or just not: the list is another then.
+fn other_lead(random: &mut Random, draft: &mut Draft) {
     let basis = draft.polys('B');
     if basis.iter().filter_map(lead).count() < 2 {
         return;
@@ -123,6 +143,30 @@ fn holding_lead(random: &mut Random, draft: &mut Draft) {
     let new = Term { kind: 'B', item: into as u64 + 1, coef: random.coef(draft.p), word };
     kept.insert(at.unwrap_or(kept.len()), new);
     draft.terms = kept;
+}
+
+/// Two basis polynomials with each other's numbers, in the terms and in all that is said of them. What is left is the
+/// items of O lines: the list has another order, where it does not see the two as the same.
+fn exchange(random: &mut Random, draft: &mut Draft) {
+    if draft.basis < 2 {
+        return;
+    }
+    let (one, other) = (random.between(1, draft.basis), random.between(1, draft.basis));
+    let exchanged = |number: u64| match number {
+        _ if number == one => other,
+        _ if number == other => one,
+        _ => number,
+    };
+    draft.terms.iter_mut().filter(|term| term.kind == 'B').for_each(|term| term.item = exchanged(term.item));
+    for sum in &mut draft.sums {
+        match sum.kind {
+            'B' => sum.item = exchanged(sum.item),
+            _ => sum.of = exchanged(sum.of),
+        }
+    }
+    // Terms of one item keep their order.
+    draft.terms.sort_by_key(|term| (term.kind == 'B', term.item));
+    draft.sort_sums();
 }
 
 /// A sum of this kind that is most likely wrong: one of its lines is changed, or it is not as a leading coefficient
@@ -168,57 +212,4 @@ fn change_coefficient(random: &mut Random, draft: &mut Draft) {
         let index = random.index(&draft.terms);
         draft.terms[index].coef = random.coef(draft.p);
     }
-}
-
-/// A draft's overlaps, where its basis polynomials are not zero.
-fn draft_overlaps(draft: &Draft) -> (Vec<Poly>, Vec<Overlap>) {
-    let basis = draft.polys('B');
-    let list = if basis.iter().all(|f| !f.is_empty()) { overlaps(&basis) } else { Vec::new() };
-    (basis, list)
-}
-
-/// O lines whose product is at, just below or above the overlap word.
-fn not_below(random: &mut Random, draft: &mut Draft) {
-    let (basis, list) = draft_overlaps(draft);
-    if list.is_empty() {
-        return;
-    }
-    let index = random.index(&list);
-    let item = index as u64 + 1;
-    let Overlap { first, second, shared } = list[index].clone();
-    let (u, v) = (lead_word(&basis[first as usize - 1]), lead_word(&basis[second as usize - 1]));
-    let begin = Word(u.0[..u.len() - shared as usize].to_vec());
-    let rest = Word(v.0[shared as usize..].to_vec());
-    let none = Word::empty();
-    if random.one_in(2) && in_field(draft) {
-        // The overlap is certified by its own two products, each divided by its leading coefficient.
-        let p = draft.p;
-        let coef = |of: u64| inverse(p, lead_coef(&basis[of as usize - 1]));
-        draft.sums.retain(|sum| (sum.kind, sum.item) != ('O', item));
-        draft.sums.push(Sum::new('O', item, coef(first), &none, first, &rest));
-        draft.sums.push(Sum::new('O', item, negative(p, coef(second)), &begin, second, &none));
-    } else {
-        let of = random.between(1, draft.basis);
-        let alphabet: Vec<u8> = (b'a'..b'a' + draft.letters as u8).collect();
-        let (left, right) = match random.below(4) {
-            0 => (begin, none),
-            1 => (none, rest),
-            2 => (Word(vec![b'a' + draft.letters as u8 - 1; 24]), none),
-            _ => (random.word_between(&alphabet, 0, 3), random.word_between(&alphabet, 0, 3)),
-        };
-        let coef = random.coef(draft.p);
-        add_cancelling(draft, 'O', item, coef, &left, of, &right);
-    }
-    draft.sort_sums();
-}
-
-/// An O line with an item at or above the overlap count.
-fn above_count(random: &mut Random, draft: &mut Draft) {
-    let (_, list) = draft_overlaps(draft);
-    let count = list.len() as u64;
-    let item = *random.pick(&[count.max(1), count + 1, count + 2, 99_999]);
-    let of = random.between(1, draft.basis.max(1));
-    let none = Word::empty();
-    draft.sums.push(Sum::new('O', item, random.coef(draft.p), &none, of, &none));
-    draft.sort_sums();
 }

@@ -4,7 +4,7 @@ use crate::coefficients::{inverse, is_field, times};
 use crate::generate::draft::Draft;
 use crate::generate::random::Random;
 use crate::generate::scale::{scale_polynomial, scale_sums};
-use crate::overlaps::overlaps;
+use crate::list::list;
 use crate::poly::lead_coef;
 
 /// Whether the draft's coefficients can be multiplied: they are elements of its field.
@@ -54,15 +54,15 @@ pub fn scale_difference(random: &mut Random, draft: &mut Draft) {
     if !in_field(draft) || basis.iter().any(|f| f.is_empty()) {
         return;
     }
-    let mut list: Vec<_> = (1..).zip(overlaps(&basis)).collect();
+    let mut list: Vec<_> = (1..).zip(list(&basis)).collect();
     list.retain(|(item, _)| draft.sums.iter().any(|sum| (sum.kind, sum.item) == ('O', *item)));
     if list.is_empty() {
         return;
     }
-    let (item, overlap) = random.pick(&list);
+    let (item, entry) = random.pick(&list);
     let p = draft.p;
     let coef = |of: u64| lead_coef(&basis[of as usize - 1]);
-    let (first, second) = (coef(overlap.first), coef(overlap.second));
+    let (first, second) = (coef(entry.first), coef(entry.second));
     let factor = match random.below(6) {
         0 => first,
         1 => second,

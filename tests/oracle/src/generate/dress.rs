@@ -3,7 +3,7 @@
 use crate::coefficients::{add, negative};
 use crate::generate::draft::{Draft, Sum};
 use crate::generate::random::Random;
-use crate::overlaps::overlaps;
+use crate::list::list;
 use crate::poly::lead_word;
 use crate::word::Word;
 
@@ -39,7 +39,7 @@ fn split(random: &mut Random, draft: &mut Draft) {
 /// Two lines that cancel each other, of any kind that the package's counts allow.
 fn cancel(random: &mut Random, draft: &mut Draft) {
     let basis = draft.polys('B');
-    let list = overlaps(&basis);
+    let list = list(&basis);
     let kind = *random.pick(&['B', 'G', 'O']);
     let (items, polys) = match kind {
         'B' => (draft.basis, draft.gens),

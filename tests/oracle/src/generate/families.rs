@@ -2,6 +2,7 @@
 
 use crate::coefficients::{inverse, negative};
 use crate::generate::certify::{certified, Combination};
+use crate::generate::completion::Keep;
 use crate::generate::draft::{Draft, Sum};
 use crate::generate::random::Random;
 use crate::poly::{add_term, Poly};
@@ -59,11 +60,13 @@ pub fn monomials(p: u64, letters: u64, words: &[Word]) -> Draft {
     draft
 }
 
-pub fn random_monomials(random: &mut Random, p: u64, letters: u64, alphabet: &[u8]) -> Draft {
+/// Monomials, of which none holds another, or any.
+pub fn random_monomials(random: &mut Random, p: u64, letters: u64, alphabet: &[u8], keep: Keep) -> Draft {
     let count = random.between(1, 32);
     let longest = if random.one_in(4) { 24 } else { 6 };
-    let words = (0..count).map(|_| random.word_between(alphabet, 1, longest)).collect();
-    monomials(p, letters, &trimmed(words))
+    let shortest = if keep == Keep::All && random.one_in(4) { 0 } else { 1 };
+    let words: Vec<Word> = (0..count).map(|_| random.word_between(alphabet, shortest, longest)).collect();
+    monomials(p, letters, &if keep == Keep::All { words } else { trimmed(words) })
 }
 
 /// A code word of three letters: it begins with `a` and has no other `a`, so two code words never overlap.

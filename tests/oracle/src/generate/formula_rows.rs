@@ -100,6 +100,16 @@ fn words_of_six() -> Vec<String> {
         .collect()
 }
 
+/// Formulas, their short forms and the steps, with enough budget and with one that is too small.
+pub fn reduced(list: &[(&str, &str, u32)]) -> Vec<FormulaRow> {
+    let mut rows = Vec::new();
+    for (terms, short, steps) in list {
+        rows.extend([*steps, u32::MAX].map(|budget| FormulaRow::reduced(terms, short, *steps, budget)));
+        rows.extend((0..*steps).map(|budget| FormulaRow::refused(text(terms), budget, 18, budget.into())));
+    }
+    rows
+}
+
 fn lines(terms: &str) -> String {
     let terms = terms.split(',').filter(|term| !term.is_empty());
     let below: String = terms.map(|term| format!("{term}\n")).collect();

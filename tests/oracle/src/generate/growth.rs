@@ -51,6 +51,38 @@ pub fn meeting_formula(random: &mut Random, p: u64, terms: u64) -> Poly {
     f
 }
 
+/// What a growing sum is for: a basis polynomial, a relation, an overlap or an inclusion.
+#[derive(Clone, Copy, Debug, PartialEq)]
+pub enum Target {
+    Basis,
+    Relation,
+    Overlap,
+    Inclusion,
+}
+
+pub const TARGETS: [Target; 4] = [Target::Basis, Target::Relation, Target::Overlap, Target::Inclusion];
+
+impl Target {
+    /// Kind and item of the sum in a package of `growing_sum`. There are 16 overlaps before the inclusion.
+    fn sum(self) -> (char, u64) {
+        match self {
+            Target::Basis => ('B', 3),
+            Target::Relation => ('G', 4),
+            Target::Overlap => ('O', 1),
+            Target::Inclusion => ('O', 17),
+        }
+    }
+
+    /// How many entries the list of such a package has.
+    pub fn entries(self) -> u64 {
+        if self == Target::Inclusion {
+            17
+        } else {
+            4
+        }
+    }
+}
+
 /// How the lines of a growing sum stand: grown to the top and then taken back, or mixed.
 #[derive(Clone, Copy, PartialEq)]
 pub enum Lines {
@@ -58,31 +90,28 @@ pub enum Lines {
     Mixed,
 }
 
-/// A valid package but for refusal 10: one sum of this kind grows to exactly `top` terms (481 to 528) after
-/// its eleventh line and is then taken back.
+/// A valid package but for refusal 10: one sum grows to exactly `top` terms (481 to 528) after its eleventh line
+/// and is then taken back.
 ///
 /// The basis polynomials 1 with leading word `ac` and 48 terms, and 2 with leading word `ad` and as many terms
 /// as are wanted, overlap nothing. 3 is the monomial `bbbbb`: it overlaps itself, the differences are zero,
-/// and the overlap words are longer than any product here.
-pub fn growing_sum(random: &mut Random, p: u64, kind: char, top: usize, order: Lines) -> Draft {
+/// and the overlap words are longer than any product here. For an inclusion it stands there again as 4.
+pub fn growing_sum(random: &mut Random, p: u64, target: Target, top: usize, order: Lines) -> Draft {
     let none = Word::empty();
     // Target minus sum begins with the terms of the target: the zero relation and the difference have none,
     // and the basis polynomial 3 has one.
-    let begin = usize::from(kind == 'B');
+    let begin = usize::from(target == Target::Basis);
     let big = spread(random, p, "ac", 48);
     let small = spread(random, p, "ad", top - 480 - begin);
     let single = Poly::from([(Word::new("bbbbb"), 1)]);
-    let basis = [big.clone(), small.clone(), single.clone()];
     let relations = [big, small, single, Poly::new()];
+    let numbers: &[u64] = if target == Target::Inclusion { &[1, 2, 3, 3] } else { &[1, 2, 3] };
+    let basis: Vec<Poly> = numbers.iter().map(|of| relations[*of as usize - 1].clone()).collect();
     let sums: Vec<_> =
-        (1..=3).map(|of| [((none.clone(), of, none.clone()), 1)].into_iter().collect()).collect();
-    let mut draft = certified(p, 26, &relations, &basis, &sums).expect("no overlap that is not zero");
-    // B 3 is the sum of its own line and of lines that cancel, G 4 and O 1 of such lines alone.
-    let item = match kind {
-        'B' => 3,
-        'G' => 4,
-        _ => 1,
-    };
+        numbers.iter().map(|of| [((none.clone(), *of, none.clone()), 1)].into_iter().collect()).collect();
+    let mut draft = certified(p, 26, &relations, &basis, &sums).expect("no difference that is not zero");
+    // B 3 is the sum of its own line and of lines that cancel, the others of such lines alone.
+    let (kind, item) = target.sum();
     let mut lines = Vec::new();
     for of in [1; 10].into_iter().chain([2]) {
         let left = Word(vec![b'c' + lines.len() as u8]);
@@ -109,11 +138,11 @@ mod tests {
     #[test]
     fn sums_reach_512_terms_and_no_more() {
         for p in [2, 7, 256, 65_521] {
-            for kind in ['B', 'G', 'O'] {
+            for target in TARGETS {
                 let random = &mut Random::new(3, p);
                 let mut number =
-                    |top| check(&growing_sum(random, p, kind, top, Lines::UpAndDown).text()).number;
-                assert_eq!((number(512), number(513)), (0, 10), "{kind} over {p}");
+                    |top| check(&growing_sum(random, p, target, top, Lines::UpAndDown).text()).number;
+                assert_eq!((number(512), number(513)), (0, 10), "{target:?} over {p}");
             }
         }
     }

@@ -55,7 +55,8 @@ impl Rows {
         self.line(4, "G 1 7 aa", 5, 4);
         self.put(with(&[(4, "G 1 6 b"), (5, "G 1 1 aa")]), 6, 5);
         self.put(without(&[6, 7], &[]), 8, 1);
-        self.line(8, "B 2 1 aab", 9, 2);
+        // The leading word of B 2 holds that of B 1, which is no refusal. B 2 is not its sum.
+        self.line(8, "B 2 1 aab", 11, 2);
         self.put(without(&[13], &[]), 11, 2);
         self.put(without(&[14], &[]), 12, 1);
         self.put(without(&[15], &[]), 13, 1);
@@ -168,14 +169,14 @@ impl Rows {
         self.put(with(&[(11, "B 2 1 - 1 a"), (12, "B 1 1 - 1 -")]), 6, 12);
     }
 
-    /// Refusals 8 and 9, and 8 for all items before 9 for any. Only a zero polynomial gets 8: one that leads with
-    /// another coefficient than 1 is judged on.
+    /// Refusal 8. Only a zero polynomial gets it: one that leads with another coefficient than 1, or whose leading word
+    /// holds another's, is judged on.
     fn leads(&mut self) {
         let basis = |terms: &[&str]| {
             let items = terms.iter().filter(|term| term.starts_with('B')).count();
             made(&format!("7 2 0 {items}"), terms, &[])
         };
-        self.put(basis(&["B 1 1 aab", "B 2 2 aa"]), 9, 1);
+        self.put(basis(&["B 1 1 aab", "B 2 2 aa"]), 11, 1);
         self.put(made("7 2 0 3", &["B 1 1 aab", "B 2 2 aa"], &[]), 8, 3);
         self.put(made("7 2 0 3", &["B 1 1 aab", "B 3 1 aa"], &[]), 8, 2);
         self.put(made("7 2 0 1", &[], &[]), 8, 1);
@@ -186,10 +187,7 @@ impl Rows {
         self.put(without(&[6, 7, 8, 9], &[]), 8, 1);
         self.line(6, "B 1 2 aa", 11, 1);
         self.line(8, "B 2 6 ab", 11, 2);
-        self.line(8, "B 2 1 aa", 9, 1);
-        self.put(basis(&["B 1 1 bab", "B 2 1 ab"]), 9, 1);
-        self.put(basis(&["B 1 1 -", "B 2 1 a"]), 9, 2);
-        self.put(basis(&["B 1 1 a", "B 2 1 -"]), 9, 1);
+        self.line(8, "B 2 1 aa", 11, 2);
         self.put(basis(&["B 1 1 aaaa"]), 11, 1);
         self.put(basis(&["B 1 1 a"]), 11, 1);
     }

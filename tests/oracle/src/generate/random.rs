@@ -26,6 +26,13 @@ impl Random {
         z ^ (z >> 31)
     }
 
+    /// So many bytes.
+    pub fn bytes(&mut self, count: usize) -> Vec<u8> {
+        let mut bytes: Vec<u8> = (0..count.div_ceil(8)).flat_map(|_| self.number().to_le_bytes()).collect();
+        bytes.truncate(count);
+        bytes
+    }
+
     /// A number from 0 to n - 1.
     pub fn below(&mut self, n: u64) -> u64 {
         self.number() % n

@@ -69,7 +69,7 @@ impl Rows {
         self.put(changed(&e, "G 1 1 aa\nG 1 1 b\n", "G 1 1 b\nG 1 1 aa\n"), 6, 5, 0);
         self.put(changed(&e, "B 1 1 aa\nB 1 1 b\n", ""), 8, 1, 0);
         self.put(changed(&e, "256 2 1 2", "256 2 1 3"), 8, 3, 0);
-        self.put(changed(&e, "B 2 1 ab", "B 2 1 aab"), 9, 2, 0);
+        self.put(changed(&e, "B 2 1 ab", "B 2 1 aab"), 11, 2, 0);
         self.put(changed(&e, "B 2 1 a 1 -\n", ""), 11, 2, 0);
         self.put(changed(&e, "G 1 1 - 1 -\n", ""), 12, 1, 0);
         self.put(changed(&e, "O 1 1 - 2 -\n", ""), 13, 1, 0);

@@ -105,7 +105,7 @@ mod tests {
             let random = &mut Random::new(6, round);
             let mut draft = copies_of_e(997, 3);
             scale_some(random, &mut draft);
-            scaled += u64::from(leads_otherwise(&draft.text()));
+            scaled += u64::from(leads_otherwise(&draft.polys('B')));
         }
         assert!((200..250).contains(&scaled), "{scaled} of 300");
     }

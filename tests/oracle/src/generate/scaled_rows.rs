@@ -2,7 +2,7 @@
 //! that are fixed by the requirements.
 
 use crate::generate::edits::{changed, made};
-use crate::generate::formula_rows::{formula_rows, text, FormulaRow};
+use crate::generate::formula_rows::{formula_rows, reduced, FormulaRow};
 use crate::generate::package_rows::Row;
 use crate::generate::rows_256::formula_rows_256;
 
@@ -170,7 +170,8 @@ impl Rows {
         self.put(format!("{}O 3 1 - 1 -\n", scaled_e()), 15, 18, 0);
     }
 
-    /// 8 for a zero polynomial alone, also where its sum is zero; 9 whatever the coefficients are.
+    /// 8 for a zero polynomial alone, also where its sum is zero. A leading word may hold another's, whatever the
+    /// coefficients are; here a B sum is wrong then.
     fn leads(&mut self) {
         self.edit("7 2 1 2", "7 2 1 3", 8, 3);
         self.edit("B 1 3 aa\nB 1 4 b\n", "", 8, 1);
@@ -178,9 +179,9 @@ impl Rows {
         self.edit("B 1 3 aa\nB 1 4 b\nB 2 5 ab\nB 2 2 ba\n", "", 8, 1);
         let zero = changed(&scaled_e(), "B 2 5 ab\nB 2 2 ba\n", "");
         self.put(changed(&zero, "B 2 5 - 1 a\nB 2 2 a 1 -\n", ""), 8, 2, 0);
-        self.edit("B 2 5 ab", "B 2 5 aa", 9, 1);
-        self.edit("B 2 5 ab", "B 2 5 aab", 9, 2);
-        self.edit("B 1 3 aa", "B 1 3 aab", 9, 1);
+        self.edit("B 2 5 ab", "B 2 5 aa", 11, 2);
+        self.edit("B 2 5 ab", "B 2 5 aab", 11, 2);
+        self.edit("B 1 3 aa", "B 1 3 aab", 11, 1);
         // Coefficients out of bounds are so in a leading term too.
         for coef in ["0", "7", "8"] {
             self.edit("B 1 3 aa", &format!("B 1 {coef} aa"), 5, 6);
@@ -221,7 +222,7 @@ impl Rows {
         self.put(changed(&scaled, "O 2 142 b 1 -", "O 2 1 b 1 -"), 13, 2, 0);
         self.put(changed(&scaled, "O 1 244 - 2 -", "O 1 142 - 1 a\nO 1 142 a 1 -"), 14, 15, 0);
         self.put(changed(&scaled, "B 1 2 aa\nB 1 2 b\n", ""), 8, 1, 0);
-        self.put(changed(&scaled, "B 2 3 ab", "B 2 3 aab"), 9, 2, 0);
+        self.put(changed(&scaled, "B 2 3 ab", "B 2 3 aab"), 11, 2, 0);
         self.put(changed(&scaled, "B 1 2 b", "B 1 3 b"), 11, 1, 0);
         self.put(format!("{scaled}O 3 1 - 1 -\n"), 15, 18, 0);
     }
@@ -234,16 +235,6 @@ pub fn scaled_formula_rows() -> Vec<(String, Vec<FormulaRow>)> {
         vec![(tripled(), tripled_rows()), (monomial(), monomial_rows()), (constant(), constant_rows())];
     rows.extend([scaled_e(), first_negative(), second_negative()].map(|package| (package, formula_rows())));
     rows.extend([twice_256(), times_128()].map(|package| (package, formula_rows_256())));
-    rows
-}
-
-/// Formulas, their short forms and the steps, with enough budget and with one that is too small.
-fn reduced(list: &[(&str, &str, u32)]) -> Vec<FormulaRow> {
-    let mut rows = Vec::new();
-    for (terms, short, steps) in list {
-        rows.extend([*steps, u32::MAX].map(|budget| FormulaRow::reduced(terms, short, *steps, budget)));
-        rows.extend((0..*steps).map(|budget| FormulaRow::refused(text(terms), budget, 18, budget.into())));
-    }
     rows
 }
 

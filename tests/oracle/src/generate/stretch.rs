@@ -3,13 +3,16 @@
 use crate::generate::draft::Draft;
 use crate::generate::random::Random;
 use crate::package::LETTERS;
+use crate::poly::Poly;
 use crate::word::Word;
 
 /// Replaces letter number i (from 0) by `a`, some `b`, and letter number i + 1. Code words have one length and
 /// their `a` stands at the begin alone, so they keep the order of words, and leading words overlap and hold one
-/// another as before. A valid package stays valid unless a word becomes too long; then None.
+/// another as before, but for the empty word: it stands at more places of a longer word. A valid package stays
+/// valid unless a word becomes too long or the empty word leads beside others; then None.
 pub fn stretched(random: &mut Random, draft: &Draft) -> Option<Draft> {
-    if draft.letters > 25 {
+    let leads_with_none = |f: &Poly| f.keys().all(Word::is_empty);
+    if draft.letters > 25 || (draft.basis > 1 && draft.polys('B').iter().any(leads_with_none)) {
         return None;
     }
     let middle = random.below(3) as usize;

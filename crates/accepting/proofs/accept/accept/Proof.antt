@@ -3,7 +3,7 @@ use mathlib.Core.Path.{_≡_}
 use native.Mathlib.Omega.{arith}
 use lib.ListN.{length}
 use Rattle.package.specs.Held.{seenAll}
-use Rattle.acceptance.proofs.BasisFacts.{fine-nonzero}
+use Rattle.acceptance.proofs.FirstZero.{fine-nonzero}
 use Rattle.basis.proofs.BasisAnswers.{basis-refused, basis-sound, heads-sound}
 use Rattle.accepting.specs.Accepted.{Accepts}
 use Rattle.accepting.proofs.PackageRead.{PackageRead, answered, unread-refused}

@@ -1,4 +1,4 @@
--- `judge_basis` judges refusals 8 and 9. The loop's invariant: what is left to judge gives the verdict of refusal 8, and the leading words before are laid.
+-- `judge_basis` judges refusal 8. The loop's invariant: what is left to judge gives the verdict of refusal 8, and the leading words before are laid.
 use borrow.Author.Needs.{needs}
 use mathlib.Core.Path.{_≡_, sym, _∙_}
 use Prim.Native.Nat.{_+_, _-_, _≤_}
@@ -8,8 +8,7 @@ use Rattle.working.specs.Family.{familyAt}
 use Rattle.acceptance.specs.Check.{fine, zerosJudged}
 use Rattle.basis.specs.Heads.{HeadsOf}
 use Rattle.basis.specs.Answer.{basisVerdict, HeadsWhere}
-use Rattle.basis.proofs.ToldNumbers.{told-refused, told-fine}
-use Rattle.basis.proofs.BasisAnswers.{zero-judged, apart-told}
+use Rattle.basis.proofs.BasisAnswers.{zeros-judged}
 use Rattle.basis.proofs.LeadingHeads.{Filled, filled-none, filled-next, zeros-start, zero-refused, zeros-next, zeros-end, heads-of, start-within, length-within}
 use Rattle.basis.proofs.basis.judge_basis.Statement.{statement}
 use Rattle.basis.proofs.basis.judge_basis.Tie as tie
@@ -27,7 +26,7 @@ abbrev μ-loop : tie.MeasureT-loop
 
 -- what is known at the call
 abbrev start : tie.At-loop Inv-loop μ-loop → tie.Start Inv-loop μ-loop
-start m = m .before .before .before .before .before .before .before .before
+start m = m .before
 
 -- the terms of polynomial g end among those that are well formed
 ends : (i : tie.In-loop Inv-loop μ-loop) → getD (start (i .before) .args .firsts .now) (start (i .before) .args .base + i .before .loop .g + 1) 0 ≤ start (i .before) .pre .0 .m
@@ -55,8 +54,7 @@ laid i =
 
 loop-holds : tie.Need-loop-holds Inv-loop μ-loop
 loop-holds c =
-    let s = c .before .before .before .before .before .before .before in
-    (omega arith, search needs, search needs, zeros-start _ _ _ _ _ _ _ (s .pre .0), filled-none _ _ _ _ _ _ _ (s .pre .0) _ _)
+    (omega arith, search needs, search needs, zeros-start _ _ _ _ _ _ _ (c .pre .0), filled-none _ _ _ _ _ _ _ (c .pre .0) _ _)
 
 add-a : tie.Need-add-a Inv-loop μ-loop
 add-a c = omega (arith, start (c .before) .pre .0 .runs .marks)
@@ -79,8 +77,8 @@ mul-b c = omega (arith, start (c .before .before) .pre .0 .runs .marks)
 shared-slice-read-b : tie.Need-shared-slice-read-b Inv-loop μ-loop
 shared-slice-read-b c = omega (arith, start (c .before .before .before) .pre .0 .runs .marks)
 
-add-t21 : tie.Need-add-t21 Inv-loop μ-loop
-add-t21 c = search needs
+add-t20 : tie.Need-add-t20 Inv-loop μ-loop
+add-t20 c = search needs
 
 same-length : tie.Need-same-length Inv-loop μ-loop
 same-length c = search needs
@@ -93,7 +91,7 @@ unfolding basisVerdict HeadsWhere
 returns c =
     let i = c .before .before .before in
     let l = i .before .loop in
-    (zero-judged _ _ (zero-refused _ _ _ _ _ _ _ (start (i .before) .pre .0) (l .g) (i .loop-test .taken) (c .if1 .taken) ∙ l .inv .3), tt)
+    (zero-refused _ _ _ _ _ _ _ (start (i .before) .pre .0) (l .g) (i .loop-test .taken) (c .if1 .taken) ∙ l .inv .3 ∙ zeros-judged _, tt)
 
 mul-heads : tie.Need-mul-heads Inv-loop μ-loop
 mul-heads c = let i = c .before .before .before in omega (arith, start (i .before) .pre .0 .terms .starts-hold, ends i)
@@ -152,9 +150,6 @@ loop-again c =
       filled-next _ _ _ _ _ _ _ (s .pre .0) (l .g) t _ _ (omega arith) (omega arith) f (l .inv .4),
     )
 
-first-holding-requires : tie.Need-first-holding-requires Inv-loop μ-loop
-first-holding-requires c κs = laid (c .before .before) .laid
-
 same-length-3 : tie.Need-same-length-3 Inv-loop μ-loop
 same-length-3 c = search needs
 
@@ -163,21 +158,7 @@ same-length-4 c = search needs
 
 returns-2 : tie.Need-returns-2 Inv-loop μ-loop
 unfolding basisVerdict HeadsWhere
-returns-2 c =
-    let i = c .before .before .before .before in
-    (sym (told-refused 9 _ (c .if2 .taken)) ∙ apart-told _ (led i) _ (laid i .leading) _ (c .before .first-holding .ensures), tt)
-
-same-length-5 : tie.Need-same-length-5 Inv-loop μ-loop
-same-length-5 c = search needs
-
-same-length-6 : tie.Need-same-length-6 Inv-loop μ-loop
-same-length-6 c = search needs
-
-returns-3 : tie.Need-returns-3 Inv-loop μ-loop
-unfolding basisVerdict HeadsWhere
-returns-3 c =
-    let i = c .before .before .before .before in
-    (sym (told-fine 9 _ .1 (c .if2 .left)) ∙ apart-told _ (led i) _ (laid i .leading) _ (c .before .first-holding .ensures), laid i)
+returns-2 c = (led c ∙ zeros-judged _, laid c)
 
 pub judge-basis-spec : {M : Type 1} → statement M
 judge-basis-spec =
@@ -193,7 +174,7 @@ judge-basis-spec =
     add-b-2
     mul-b
     shared-slice-read-b
-    add-t21
+    add-t20
     same-length
     same-length-2
     returns
@@ -209,10 +190,6 @@ judge-basis-spec =
     add-g
     loop-less
     loop-again
-    first-holding-requires
     same-length-3
     same-length-4
-    returns-2
-    same-length-5
-    same-length-6
-    returns-3)
+    returns-2)

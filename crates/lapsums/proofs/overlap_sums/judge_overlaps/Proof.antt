@@ -1,5 +1,5 @@
--- `judge_overlaps` judges the sums of the overlaps. The outer loop's invariant: what is left of the overlaps gives the verdict; the inner loop's: what
--- is left of the overlap's lines does (proofs/OverlapsJudging).
+-- `judge_overlaps` judges the sums of the pairs. The outer loop's invariant: what is left of the pairs gives the verdict; the inner loop's: what is left
+-- of the pair's lines does (proofs/OverlapsJudging).
 use mathlib.Core.Path.{_≡_, refl, sym, _∙_}
 use mathlib.Core.Bool.{Bool, true, false}
 use mathlib.Core.List.{List}
@@ -7,15 +7,15 @@ use Prim.Native.Nat.{ℕ, _+_, _-_, _≤_}
 use native.Mathlib.Omega.{arith}
 use lib.ListN.{length}
 use Rattle.itemadding.proofs.Lowering.{lower-none}
+use Rattle.words.specs.Laid.{laidWords, Laid}
 use borrow.Author.Tests.{not-true, not-false}
 use Rattle.algebra.specs.Ideal.{family}
 use Rattle.working.specs.Working.{Arranged}
 use Rattle.working.proofs.Terms.{terms-length}
 use Rattle.package.specs.Names.{sumO}
 use Rattle.overlaps.specs.Overlaps.{leads, overlaps, overlapWord}
-use Rattle.overlaps.specs.Position.{AtMost24, ordinal, overlapOf}
-use Rattle.overlapwords.specs.OverlapPlaces.{cursorOf}
-use Rattle.overlapwords.proofs.OverlapWalk.{Walked, walk-start, walk-small, walk-placed, walk-less, walk-next}
+use Rattle.overlapsearch.specs.Position.{AtMost24, pairOf, seenPairs}
+use Rattle.overlapsearch.proofs.SeenPairs.{Walked, walk-start, walk-few, walk-asked, walk-less, walk-next}
 use Rattle.acceptance.specs.Check.{isUnder, overlapsJudged, itemsJudged}
 use Rattle.sumlines.specs.Lines.{sumsAt, heldFrom, firstIs, takenLine}
 use Rattle.sumorder.proofs.NextLine.{next-line, next-low, next-further}
@@ -26,7 +26,7 @@ use Rattle.tablesums.proofs.Fitting.{short-fits}
 use Rattle.tablesums.proofs.LeadingWords.{lapping}
 use Rattle.tablelies.proofs.SumWords.{line-words}
 use Rattle.lapsums.specs.Judged.{lapsVerdictOf, LapsBehind}
-use Rattle.lapsums.proofs.CountedHeads.{count-laid, count-short, count-few, count-lapped, count-first, count-behind}
+use Rattle.lapsums.proofs.CountedHeads.{count-asked, count-found, count-first, count-behind}
 use Rattle.lapsums.proofs.OverlapsJudging.{OverlapsDone, LapDone, overlaps-start, lap-start, lap-not, lap-over, lap-next, lap-wrong, lap-end}
 use Rattle.lapsums.proofs.OverlapsJudging.{overlaps-end, line-small, line-names, line-tested, line-taken}
 use borrow.Author.Needs.{needs}
@@ -57,7 +57,7 @@ Inv-items t heads headlens bytes from first c₀ l₀ w₀ o₀ count base left�
     × (length buf ≡ 9)
     × Arranged o
     × Room c l w o
-    × Walked headlens count i f
+    × Walked heads headlens bytes count i f
     × OverlapsDone t bytes (leads (basisIn t))
     (overlapsJudged (fieldIn t) (orderIn t) (family (basisIn t)) (sumsAt bytes from first) (overlaps (leads (basisIn t))) 1)
     (length (overlaps (leads (basisIn t)))) (itemsJudged (length (overlaps (leads (basisIn t)))) (sumsAt bytes from first))
@@ -65,7 +65,7 @@ Inv-items t heads headlens bytes from first c₀ l₀ w₀ o₀ count base left�
 
 abbrev μ-items : tie.MeasureT-items
 μ-items t heads headlens bytes from first c₀ l₀ w₀ o₀ count base left₀ right₀ lap₀ buf₀ at₀ line₀ s₀ i₀ answer₀ f₀ c l w o left right lap buf at line s i answer f =
-    100000 - ordinal (cursorOf f)
+    length (seenPairs (laidWords heads headlens bytes count) f)
 
 -- the places of a turn, from the last back to the first
 abbrev based : tie.At-items Inv-loop μ-loop Inv-items μ-items → tie.After-gens-in Inv-loop μ-loop Inv-items μ-items
@@ -101,20 +101,21 @@ packed u = u .before .before .before .before .before
 abbrev passed : tie.After-take-item Inv-loop μ-loop Inv-items μ-items → tie.Else2 Inv-loop μ-loop Inv-items μ-items
 passed k = k .before .before .before .before .before .before .before .before .before
 
--- the overlap of a turn of the inner loop, and the call
+-- the pair of a turn of the inner loop, and the call
 abbrev outer : tie.At-loop Inv-loop μ-loop Inv-items μ-items → tie.At-items Inv-loop μ-loop Inv-items μ-items
 outer m = top (lap (begun m))
 
 abbrev opened : tie.At-loop Inv-loop μ-loop Inv-items μ-items → tie.Start Inv-loop μ-loop Inv-items μ-items
 opened m = start (counted (outer m))
 
-short : (b : tie.After-basis-in Inv-loop μ-loop Inv-items μ-items) → AtMost24 (start b .args .headlens .now) (b .basis-in .result)
-short b = let (tabled, heads) = start b .pre .0 in count-short heads (b .basis-in .ensures) tabled
+-- what the search for pairs asks
+asked : (b : tie.After-basis-in Inv-loop μ-loop Inv-items μ-items)
+    → let a = start b .args in
+    Laid (a .heads .now) (a .headlens .now) (a .bytes .now) (b .basis-in .result)
+    × ((b .basis-in .result ≤ 64) × AtMost24 (a .headlens .now) (b .basis-in .result))
+asked b = count-asked (start b .pre .0 .0) (start b .pre .0 .1) (b .basis-in .ensures)
 
-few : (b : tie.After-basis-in Inv-loop μ-loop Inv-items μ-items) → b .basis-in .result ≤ 64
-few b = count-few (start b .pre .0 .0) (b .basis-in .ensures)
-
--- the next line is one of the overlap, or none
+-- the next line is one of the pair, or none
 ours : (x : tie.Then1 Inv-loop μ-loop Inv-items μ-items)
     → firstIs sumO (outer (turn x) .items .i + 1) (heldFrom (opened (turn x) .args .bytes .now) (turn x .loop .line) (turn x .loop .s)) ≡ true
 ours x = sym (x .before .is-item .ensures _ _) ∙ x .if1 .taken
@@ -134,7 +135,7 @@ abbrev table : tie.After-is-under Inv-loop μ-loop Inv-items μ-items → List �
 table u = opened (back u) .args .t .now
 
 tested : (u : tie.After-is-under Inv-loop μ-loop Inv-items μ-items) (a : Bool) → u .is-under .result ≡ a
-    → isUnder (orderIn (table u)) (family (basisIn (table u))) (overlapWord (family (basisIn (table u))) (overlapOf (cursorOf (outer (back u) .items .f))))
+    → isUnder (orderIn (table u)) (family (basisIn (table u))) (overlapWord (family (basisIn (table u))) (pairOf (outer (back u) .items .f)))
     (takenLine (opened (back u) .args .bytes .now) (back u .loop .s))
     ≡ a
 tested u a e =
@@ -152,10 +153,8 @@ gens-in-requires c κs = search needs
 line-at-requires : tie.Need-line-at-requires Inv-loop μ-loop Inv-items μ-items
 line-at-requires c κs = start (c .before) .pre .1 .0 .low
 
-first-overlap-requires : tie.Need-first-overlap-requires Inv-loop μ-loop Inv-items μ-items
-first-overlap-requires c κs =
-    let b = c .before .before in
-    (count-laid (start b .pre .0 .1) (b .basis-in .ensures), (few b, short b))
+first-pair-requires : tie.Need-first-pair-requires Inv-loop μ-loop Inv-items μ-items
+first-pair-requires c κs = asked (c .before .before)
 
 items-holds : tie.Need-items-holds Inv-loop μ-loop Inv-items μ-items
 items-holds c =
@@ -163,22 +162,20 @@ items-holds c =
     let b = c .before .before .before in
     let s = start b in
     let e = b .basis-in .ensures in
-    let q = c .first-overlap .ensures in (
+    let q = c .first-pair .ensures in (
       refl,
       refl,
       refl,
       refl,
       s .pre .1 .1 .0,
       s .pre .1 .1 .1,
-      walk-start _ _ (short b) (few b) _ (q .1 .0) (q .1 .1),
-      overlaps-start _ _ _ _ _ _ _ _ _ _ (next-line _ _ _ _ _ _ _ (s .pre .1 .0) (read .1) (read .0)) _ (count-first (s .pre .0 .1) e _ (q .0)) refl refl refl,
+      walk-start _ _ _ _ (asked b .0) (asked b .1) _ q,
+      overlaps-start _ _ _ _ _ _ _ _ _ _ (next-line _ _ _ _ _ _ _ (s .pre .1 .0) (read .1) (read .0)) _ (count-first (s .pre .0 .0) (s .pre .0 .1) e _ (q .0)) refl refl refl,
     )
 
 add-item : tie.Need-add-item Inv-loop μ-loop Inv-items μ-items
 add-item c =
-    let m = top c in
-    let b = counted m in
-    omega (arith, walk-small _ _ (short b) (few b) _ _ (m .items .inv .6) (c .items-test .taken))
+    omega (arith, walk-few _ _ _ _ _ _ (top c .items .inv .6) (c .items-test .taken))
 
 start-lap-requires : tie.Need-start-lap-requires Inv-loop μ-loop Inv-items μ-items
 start-lap-requires c κs =
@@ -187,8 +184,8 @@ start-lap-requires c κs =
     let b = counted m in
     let (tabled, heads) = start b .pre .0 in
     let i = m .items .inv in
-    let lapped = count-lapped heads (b .basis-in .ensures) _ (i .6 .found (x .items-test .taken)) in
-    ((tabled, lapping heads _ lapped, i .2), (i .4, i .5))
+    let found = count-found tabled heads (b .basis-in .ensures) _ (i .6 .found (x .items-test .taken)) in
+    ((tabled, lapping heads _ found, i .2), (i .4, i .5))
 
 loop-holds : tie.Need-loop-holds Inv-loop μ-loop Inv-items μ-items
 loop-holds c =
@@ -289,20 +286,15 @@ loop-again c =
       lap-next _ _ _ _ _ _ _ _ _ _ _ _ (i .5) (ours x) e _ q _ (terms-length _ 0 _) most _ (c .line-at2 .ensures .1) (c .line-at2 .ensures .0),
     )
 
-overlap-behind-requires : tie.Need-overlap-behind-requires Inv-loop μ-loop Inv-items μ-items
-overlap-behind-requires c κs =
-    let m = ended (c .before) in
-    let x = lap (begun m) in
-    let b = counted (top x) in
-    (count-laid (start b .pre .0 .1) (b .basis-in .ensures), (few b, short b, walk-placed _ _ (short b) (few b) _ _ (top x .items .inv .6) (x .items-test .taken)))
+pair-behind-requires : tie.Need-pair-behind-requires Inv-loop μ-loop Inv-items μ-items
+pair-behind-requires c κs =
+    let x = lap (begun (ended (c .before))) in
+    walk-asked _ _ _ _ _ _ (top x .items .inv .6) (x .items-test .taken)
 
 items-less : tie.Need-items-less Inv-loop μ-loop Inv-items μ-items
 items-less c =
-    let m = ended (c .before .before) in
-    let x = lap (begun m) in
-    let b = counted (top x) in
-    let q = c .overlap-behind .ensures in
-    walk-less _ _ (short b) (few b) _ _ (top x .items .inv .6) (x .items-test .taken) _ (q .1 .0) (q .1 .1)
+    let x = lap (begun (ended (c .before .before))) in
+    walk-less _ _ _ _ _ _ (top x .items .inv .6) (x .items-test .taken) _ (c .pair-behind .ensures)
 
 items-again : tie.Need-items-again Inv-loop μ-loop Inv-items μ-items
 items-again c =
@@ -312,15 +304,15 @@ items-again c =
     let h = i .4 .holds in
     let x = lap (begun m) in
     let b = counted (top x) in
-    let q = c .overlap-behind .ensures in (
+    let q = c .pair-behind .ensures in (
       i .1,
       i .2,
       begun m .start-lap .ensures .0 .1 .nine,
       i .3,
       h .arranged,
       h .room,
-      walk-next _ _ (short b) (few b) _ _ (top x .items .inv .6) (x .items-test .taken) _ (q .1 .0) (q .1 .1),
-      lap-end _ _ _ _ _ _ _ _ _ _ _ _ (i .5) (none y) _ (terms-length _ 0 _) (c .before .if4 .left) _ (count-behind (start b .pre .0 .1) (b .basis-in .ensures) _ _ (q .0)),
+      walk-next _ _ _ _ _ _ (top x .items .inv .6) (x .items-test .taken) _ q,
+      lap-end _ _ _ _ _ _ _ _ _ _ _ _ (i .5) (none y) _ (terms-length _ 0 _) (c .before .if4 .left) _ (count-behind (start b .pre .0 .0) (start b .pre .0 .1) (b .basis-in .ensures) _ _ (q .0)),
     )
 
 returns : tie.Need-returns Inv-loop μ-loop Inv-items μ-items
@@ -368,7 +360,7 @@ judge-overlaps-spec =
     basis-in-requires
     gens-in-requires
     line-at-requires
-    first-overlap-requires
+    first-pair-requires
     items-holds
     add-item
     start-lap-requires
@@ -382,7 +374,7 @@ judge-overlaps-spec =
     line-at-requires-2
     loop-less
     loop-again
-    overlap-behind-requires
+    pair-behind-requires
     items-less
     items-again
     returns

@@ -1,4 +1,4 @@
--- `line_len`: the digits of four numbers, the letters, four spaces and the line end.
+-- `line_len`: the digits of five numbers, the bytes of the word, five spaces and the line end.
 use native.Mathlib.Numerals.{add-one}
 use native.Mathlib.Omega.{arith}
 use borrow.Author.Needs.{needs}
@@ -23,6 +23,9 @@ digits-requires-3 c κs = search needs
 digits-requires-4 : tie.Need-digits-requires-4
 digits-requires-4 c κs = search needs
 
+digits-requires-5 : tie.Need-digits-requires-5
+digits-requires-5 c κs = search needs
+
 add-result : tie.Need-add-result
 add-result c = search needs
 
@@ -38,10 +41,11 @@ add-result-4 c = search needs
 add-result-5 : tie.Need-add-result-5
 add-result-5 c = search needs
 
+add-result-6 : tie.Need-add-result-6
+add-result-6 c = search needs
+
 returns : tie.Need-returns
-returns c =
-    let s = c .before .before .before .before .before .before in
-    rw (← add-one (s .args .c .first), ← add-one (s .args .c .second)) (omega arith, omega arith)
+returns c = let s = c .before .before .before .before .before .before .before in rw (← add-one (s .args .f .first), ← add-one (s .args .f .second)) (omega arith, omega arith)
 
 pub line-len-spec : {M : Type 1} → statement M
 line-len-spec =
@@ -53,9 +57,11 @@ line-len-spec =
     add-digits-2
     digits-requires-3
     digits-requires-4
+    digits-requires-5
     add-result
     add-result-2
     add-result-3
     add-result-4
     add-result-5
+    add-result-6
     returns)

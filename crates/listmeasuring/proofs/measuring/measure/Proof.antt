@@ -1,85 +1,51 @@
--- `measure` counts the overlaps and adds up the lengths of their lines. The loop's invariant: those so far and those that are left are all.
-use Prim.Native.Nat.{_-_}
+-- `measure` counts the pairs and adds up the lengths of their lines. The loop's invariant: those so far and those that are left are all.
 use native.Mathlib.Omega.{arith}
-use Rattle.overlaps.specs.Position.{ordinal}
-use Rattle.listmeasuring.proofs.Walking.{none-left, step}
-use Rattle.listmeasuring.proofs.Counting.{Measuring, measuring-start, count-few, total-few, measuring-next, measuring-end}
-use borrow.Author.Needs.{needs}
+use lib.ListN.{length}
+use Rattle.words.specs.Laid.{laidWords}
+use Rattle.overlapsearch.specs.Position.{seenPairs}
+use Rattle.overlapsearch.proofs.SeenPairs.{walk-asked, walk-less}
+use Rattle.listmeasuring.proofs.Counting.{Measuring, measuring-start, count-few, total-few, line-asked, pair-small, measuring-next, measuring-end}
 use Rattle.listmeasuring.proofs.measuring.measure.Statement.{statement}
 use Rattle.listmeasuring.proofs.measuring.measure.Tie as tie
 
 abbrev Inv-loop : tie.InvT-loop
-Inv-loop starts lens bytes n at₀ count₀ total₀ at count total = Measuring starts lens bytes n at count total
+Inv-loop starts lens bytes n kept₀ count₀ total₀ f₀ kept count total f = Measuring starts lens bytes n kept count total f
 
 abbrev μ-loop : tie.MeasureT-loop
-μ-loop starts lens bytes n at₀ count₀ total₀ at count total = 98305 - ordinal at
+μ-loop starts lens bytes n kept₀ count₀ total₀ f₀ kept count total f = length (seenPairs (laidWords starts lens bytes n) f)
+
+first-pair-requires : tie.Need-first-pair-requires Inv-loop μ-loop
+first-pair-requires c κs = let s = c .before .before .before in (s .pre .0, (s .pre .1 .0, s .pre .1 .1))
 
 loop-holds : tie.Need-loop-holds Inv-loop μ-loop
-loop-holds c = let s = c .before .before .before in measuring-start _ _ _ _ (s .pre .0) (s .pre .1 .0) (s .pre .1 .1)
+loop-holds c = let s = c .before .before .before .before in measuring-start _ _ _ _ (s .pre .0) (s .pre .1 .0, s .pre .1 .1) _ (s .pre .1 .2) _ (c .first-pair .ensures)
 
-next-overlap-requires : tie.Need-next-overlap-requires Inv-loop μ-loop
-next-overlap-requires c κs = let w = c .loop .inv .walking in (w .laid, (w .few, w .short, w .placed))
-
-enum-known-next : tie.Need-enum-known-next Inv-loop μ-loop
-enum-known-next c = search needs
-
-enum-told : tie.Need-enum-told Inv-loop μ-loop
-enum-told c = search needs
-
-returns : tie.Need-returns Inv-loop μ-loop
-returns c =
-    let o = c .before .before in
-    let l = o .before in
-    let m = measuring-end _ _ _ _ _ _ _ (l .loop .inv) (none-left _ _ _ _ _ _ (o .next-overlap .ensures .0) (c .enum-told .given .1)) in
-    (m .all, (m .whole, (m .count-most, m .whole-most)))
+keep-pair-requires : tie.Need-keep-pair-requires Inv-loop μ-loop
+keep-pair-requires c κs = let t = c .before in let l = t .before in (pair-small _ _ _ _ _ _ _ _ (l .loop .inv) (t .loop-test .taken), l .loop .inv .room)
 
 add-count : tie.Need-add-count Inv-loop μ-loop
-add-count c = let l = c .before .before .before .before in omega (arith, count-few _ _ _ _ _ _ _ (l .loop .inv))
+add-count c = let t = c .before .before in omega (arith, count-few _ _ _ _ _ _ _ _ (t .before .loop .inv) (t .loop-test .taken))
 
-letters-requires : tie.Need-letters-requires Inv-loop μ-loop
-letters-requires c κs =
-    let o = c .before .before .before in
-    let l = o .before in
-    let s = step _ _ _ _ _ (l .loop .inv .walking) _ _ (o .next-overlap .ensures) (c .before .next .given .1) in
-    ((s .first-listed, s .second-listed, omega (arith, s .below-second)), (s .first-short, s .second-short))
+word-len-requires : tie.Need-word-len-requires Inv-loop μ-loop
+word-len-requires c κs = let t = c .before .before in let l = t .before in line-asked _ _ _ _ _ _ _ _ (l .loop .inv) (t .loop-test .taken) .words
 
 line-len-requires : tie.Need-line-len-requires Inv-loop μ-loop
-line-len-requires c κs =
-    let t = c .before in
-    let o = t .before .before .before in
-    let l = o .before in
-    let s = step _ _ _ _ _ (l .loop .inv .walking) _ _ (o .next-overlap .ensures) (t .before .next .given .1) in
-    (omega (arith, count-few _ _ _ _ _ _ _ (l .loop .inv)), s .first-few, s .second-few, omega (arith, s .shared-few), c .letters .ensures .1)
+line-len-requires c κs = let t = c .before .before .before in let l = t .before in let q = line-asked _ _ _ _ _ _ _ _ (l .loop .inv) (t .loop-test .taken) in (omega (arith, count-few _ _ _ _ _ _ _ _ (l .loop .inv) (t .loop-test .taken)), q .first-few, q .second-few, q .shared-few, q .at-few, c .word-len .ensures .1)
 
 add-total : tie.Need-add-total Inv-loop μ-loop
-add-total c =
-    let l = c .before .before .before .before .before .before in
-    omega (arith, total-few _ _ _ _ _ _ _ (l .loop .inv), c .line-len .ensures .1)
+add-total c = let t = c .before .before .before .before in let l = t .before in omega (arith, total-few _ _ _ _ _ _ _ _ (l .loop .inv), c .line-len .ensures .1)
 
-place-behind-requires : tie.Need-place-behind-requires Inv-loop μ-loop
-place-behind-requires c κs =
-    let t = c .before .before in
-    let o = t .before .before .before in
-    let l = o .before in
-    let s = step _ _ _ _ _ (l .loop .inv .walking) _ _ (o .next-overlap .ensures) (t .before .next .given .1) in
-    omega (arith, s .shared-few)
+pair-behind-requires : tie.Need-pair-behind-requires Inv-loop μ-loop
+pair-behind-requires c κs = let t = c .before .before .before .before in let l = t .before in walk-asked _ _ _ _ _ _ (l .loop .inv .walked) (t .loop-test .taken)
 
 loop-less : tie.Need-loop-less Inv-loop μ-loop
-loop-less c =
-    let t = c .before .before .before in
-    let o = t .before .before .before in
-    let l = o .before in
-    let s = step _ _ _ _ _ (l .loop .inv .walking) _ _ (o .next-overlap .ensures) (t .before .next .given .1) in
-    rw (c .place-behind .ensures) (s .falls)
+loop-less c = let t = c .before .before .before .before .before in let l = t .before in walk-less _ _ _ _ _ _ (l .loop .inv .walked) (t .loop-test .taken) _ (c .pair-behind .ensures)
 
 loop-again : tie.Need-loop-again Inv-loop μ-loop
-loop-again c =
-    let t = c .before .before .before in
-    let o = t .before .before .before in
-    let l = o .before in
-    let s = step _ _ _ _ _ (l .loop .inv .walking) _ _ (o .next-overlap .ensures) (t .before .next .given .1) in
-    rw (c .place-behind .ensures)
-    (measuring-next _ _ _ _ _ _ _ (l .loop .inv) _ s _ (rw (c .before .before .letters .ensures .0) at (c .before .line-len .ensures .0)) (c .before .line-len .ensures .1))
+loop-again c = let t = c .before .before .before .before .before in let l = t .before in measuring-next _ _ _ _ _ _ _ _ (l .loop .inv) (t .loop-test .taken) _ (c .before .before .before .keep-pair .ensures) _ (c .pair-behind .ensures) _ (rw (c .before .before .word-len .ensures .0) at (c .before .line-len .ensures .0)) (c .before .line-len .ensures .1)
+
+returns : tie.Need-returns Inv-loop μ-loop
+returns c = let l = c .before in let m = measuring-end _ _ _ _ _ _ _ _ (l .loop .inv) (c .loop-test .left) in (m .all, (m .whole, ((m .count-most, m .whole-most), (m .room, m .keeps))))
 
 pub measure-spec : {M : Type 1} → statement M
 measure-spec =
@@ -87,15 +53,14 @@ measure-spec =
     (tie.spec
     Inv-loop
     μ-loop
+    first-pair-requires
     loop-holds
-    next-overlap-requires
-    enum-known-next
-    enum-told
-    returns
+    keep-pair-requires
     add-count
-    letters-requires
+    word-len-requires
     line-len-requires
     add-total
-    place-behind-requires
+    pair-behind-requires
     loop-less
-    loop-again)
+    loop-again
+    returns)

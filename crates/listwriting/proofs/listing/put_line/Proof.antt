@@ -1,7 +1,10 @@
--- `put_line`: the four numbers, the first word, the rest of the second, and the line end.
+-- `put_line`: five numbers, the overlap word and the line end.
+use mathlib.Core.Path.{ap}
+use mathlib.Core.List.{List}
+use Prim.Native.Nat.{ℕ}
 use native.Mathlib.Omega.{arith}
-use lib.ListN.{length-set}
-use Rattle.listwriting.proofs.LineStores.{overlap-length, rest-length, overlap-stored}
+use lib.ListN.{length, length-set}
+use Rattle.listwriting.proofs.LineStores.{pair-length, lent-word, pair-stored}
 use borrow.Author.Needs.{needs}
 use Rattle.listwriting.proofs.listing.put_line.Statement.{statement}
 use Rattle.listwriting.proofs.listing.put_line.Tie as tie
@@ -13,49 +16,31 @@ add-put-numbers-2 : tie.Need-add-put-numbers-2
 add-put-numbers-2 c = search needs
 
 put-numbers-requires : tie.Need-put-numbers-requires
-put-numbers-requires c κs =
-    let s = c .before .before .before .before .before .before in
-    omega (arith, overlap-length (s .args .k) (s .args .c) (s .args .u .now) (s .args .v .now) (s .pre .0 .3))
+put-numbers-requires c κs = let s = c .before .before .before .before .before .before in omega (arith, s .pre .1, pair-length (s .args .k) (s .args .f) (s .args .u .now) (s .args .v .now))
 
-put-bytes-requires : tie.Need-put-bytes-requires
-put-bytes-requires c κs =
-    let s = c .before .before .before .before .before .before .before .before .before .before in
-    omega (arith, overlap-length (s .args .k) (s .args .c) (s .args .u .now) (s .args .v .now) (s .pre .0 .3))
+sub-put-joined : tie.Need-sub-put-joined
+sub-put-joined c = search needs
 
-sub-put-bytes : tie.Need-sub-put-bytes
-sub-put-bytes c = search needs
+part-put-joined-start : tie.Need-part-put-joined-start
+part-put-joined-start c = search needs
 
-part-put-bytes-start : tie.Need-part-put-bytes-start
-part-put-bytes-start c = search needs
+part-put-joined-end : tie.Need-part-put-joined-end
+part-put-joined-end c = search needs
 
-part-put-bytes-end : tie.Need-part-put-bytes-end
-part-put-bytes-end c = search needs
-
-put-bytes-requires-2 : tie.Need-put-bytes-requires-2
-put-bytes-requires-2 c κs =
-    let s = c .before .before .before .before .before .before .before .before .before .before .before .before .before .before .before in
-    omega (arith, overlap-length (s .args .k) (s .args .c) (s .args .u .now) (s .args .v .now) (s .pre .0 .3), rest-length (s .args .v .now) (s .args .c .shared))
+put-joined-requires : tie.Need-put-joined-requires
+put-joined-requires c κs = let s = c .before .before .before .before .before .before .before .before .before .before .before in omega (arith, s .pre .1, pair-length (s .args .k) (s .args .f) (s .args .u .now) (s .args .v .now), ap (λ (l : List ℕ). length l) (lent-word (s .args .k) (s .args .f) (s .args .u .now) (s .args .v .now)), c .before .before .before .before .put-numbers .ensures .0)
 
 slice-write-out : tie.Need-slice-write-out
-slice-write-out c =
-    let s = c .before .before .before .before .before .before .before .before .before .before .before .before .before .before .before .before .before .before in
-    omega (arith, overlap-length (s .args .k) (s .args .c) (s .args .u .now) (s .args .v .now) (s .pre .0 .3), rest-length (s .args .v .now) (s .args .c .shared))
+slice-write-out c = let s = c .before .before .before .before .before .before .before .before .before .before .before .before .before .before in omega (arith, s .pre .1, pair-length (s .args .k) (s .args .f) (s .args .u .now) (s .args .v .now), ap (λ (l : List ℕ). length l) (lent-word (s .args .k) (s .args .f) (s .args .u .now) (s .args .v .now)), c .before .before .before .before .before .before .before .put-numbers .ensures .0, c .before .before .put-joined .ensures .0)
 
 add-result : tie.Need-add-result
-add-result c =
-    let s = c .before .before .before .before .before .before .before .before .before .before .before .before .before .before .before .before .before .before in
-    omega (arith, overlap-length (s .args .k) (s .args .c) (s .args .u .now) (s .args .v .now) (s .pre .0 .3), rest-length (s .args .v .now) (s .args .c .shared))
+add-result c = let s = c .before .before .before .before .before .before .before .before .before .before .before .before .before .before in omega (arith, s .pre .1, pair-length (s .args .k) (s .args .f) (s .args .u .now) (s .args .v .now), ap (λ (l : List ℕ). length l) (lent-word (s .args .k) (s .args .f) (s .args .u .now) (s .args .v .now)), c .before .before .before .before .before .before .before .put-numbers .ensures .0, c .before .before .put-joined .ensures .0)
 
 same-length : tie.Need-same-length
 same-length c = simp length-set (omega arith)
 
 returns : tie.Need-returns
-returns c =
-    let p₃ = c .before .before in
-    let p₂ = p₃ .before .before .before .before .before in
-    let p₁ = p₂ .before .before .before .before in
-    let s = p₁ .before .before .before .before .before .before .before in
-    overlap-stored (s .args .k) (s .args .c) (s .args .u .now) (s .args .v .now) (s .pre .0 .3) _ _ _ _ _ _ _ _ (p₁ .put-numbers .ensures) (p₂ .put-bytes .ensures) (p₃ .put-bytes2 .ensures)
+returns c = let s = c .before .before .before .before .before .before .before .before .before .before .before .before .before .before in pair-stored (s .args .k) (s .args .f) (s .args .u .now) (s .args .v .now) _ _ _ _ _ _ (c .before .before .before .before .before .before .before .put-numbers .ensures) (c .before .before .put-joined .ensures)
 
 pub put-line-spec : {M : Type 1} → statement M
 put-line-spec =
@@ -64,11 +49,10 @@ put-line-spec =
     add-put-numbers
     add-put-numbers-2
     put-numbers-requires
-    put-bytes-requires
-    sub-put-bytes
-    part-put-bytes-start
-    part-put-bytes-end
-    put-bytes-requires-2
+    sub-put-joined
+    part-put-joined-start
+    part-put-joined-end
+    put-joined-requires
     slice-write-out
     add-result
     same-length

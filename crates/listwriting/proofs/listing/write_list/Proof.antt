@@ -18,7 +18,7 @@ write-lines-requires : tie.Need-write-lines-requires
 write-lines-requires c κs =
     let p = c .before .before .before in
     let s = p .before .before .before .before .before .before .before in
-    (s .pre .0, (s .pre .1 .0, omega (arith, text-length (laidWords (s .args .starts .now) (s .args .lens .now) (s .args .bytes .now) (s .args .n)), p .put-bytes .ensures .0)))
+    (s .pre .0, (s .pre .1 .0, (s .pre .1 .1 .0, omega (arith, text-length (laidWords (s .args .starts .now) (s .args .lens .now) (s .args .bytes .now) (s .args .n)), p .put-bytes .ensures .0))))
 
 same-length : tie.Need-same-length
 same-length c = search needs

@@ -35,49 +35,53 @@ place-item-requires c κs =
     let y = c .before .before .before .before .before .before .before in
     let s = start y in
     let (tabled, first, _, nine) = s .pre .0 in
-    let r = s .pre .1 .1 .0 in
+    let (_, (_, (r, arranged))) = s .pre .1 in
     let none = empty-short (s .args .t .now) in
     let e = gens y .gens-in .ensures in
     let item = gens y .gens-in .result + 1 + s .args .f .first in
-    let fits = short-fits _ tabled 0 (s .args .sizes .right) item (none .short .few) (r .short .few) (omega arith) (omega arith) in
-    ((tabled, y .before .inverse-in .ensures .1, omega arith, omega arith, nine), ((none .short .six, r .short .six, fits), s .pre .1 .1 .1))
+    let fits = short-fits _ tabled 0 (s .args .sizes .rest) item (none .short .few) (r .short .few) (omega arith) (omega arith) in
+    ((tabled, y .before .inverse-in .ensures .1, omega arith, omega arith, nine), ((none .short .six, r .short .six, fits), arranged))
 
 add-take-item : tie.Need-add-take-item
-add-take-item c = search needs
+add-take-item c =
+    let y = c .before .before .before .before .before .before .before .before .before in
+    let s = start y in
+    let (tabled, _, second, _) = s .pre .0 in
+    omega (arith, gens y .gens-in .ensures, second, tabled .gens, tabled .basis)
 
 take-item-requires : tie.Need-take-item-requires
 take-item-requires c κs =
-    let p = c .before .before .before .before .before .before .before in
+    let p = c .before .before .before .before .before .before in
     let y = p .before .before .before .before .before .before .before .before in
     let s = start y in
     let t = s .args .t .now in
     let (tabled, first, second, _) = s .pre .0 in
-    let (l, (r, _)) = s .pre .1 in
+    let (l, (b, (r, _))) = s .pre .1 in
     let none = empty-short t in
     let e = gens y .gens-in .ensures in
     let d = p .place-item .ensures in
     let d₀ = d .0 .0 in
     let item = gens y .gens-in .result + 1 + s .args .f .second in
-    let fits = short-fits _ tabled (s .args .sizes .left) 0 item (l .short .few) (none .short .few) (omega arith) (omega arith) in
+    let fits = short-fits _ tabled (s .args .sizes .front) (s .args .sizes .back) item (l .short .few) (b .short .few) (omega arith) (omega arith) in
     let works = first-working t tabled (s .args .f .first) first _ _ (omega arith) (y .before .inverse-in .ensures .0) _ _ _ _ _ _ _ (d .1 .0) (d .1 .1) in (
       (tabled, y .inverse-in2 .ensures .1, omega arith, omega arith, omega arith, omega arith, d .0 .1),
-      ((l .short .six, none .short .six, fits), (works, lower-none _ _ _ _ _ _)),
+      ((l .short .six, b .short .six, fits), (works, lower-none _ _ _ _ _ _)),
     )
 
 returns : tie.Need-returns
 returns c =
-    let p = c .before .before .before .before .before .before .before .before in
+    let p = c .before .before .before .before .before .before .before in
     let y = p .before .before .before .before .before .before .before .before in
     let s = start y in
     let t = s .args .t .now in
     let (tabled, first, second, _) = s .pre .0 in
-    let (l, (r, _)) = s .pre .1 in
+    let (l, (b, (r, _))) = s .pre .1 in
     let none = empty-short t in
     let e = gens y .gens-in .ensures in
     let d = p .place-item .ensures in
     let a = c .take-item .ensures in
     let is = difference-is t tabled (s .args .f) first second _ _ _ _ (omega arith) (omega arith) (y .before .inverse-in .ensures .0)
-    (y .inverse-in2 .ensures .0) _ _ _ _ _ _ (none .word) (none .word) (l .word) (r .word) (d .1 .1) (a .1 .1) in
+    (y .inverse-in2 .ensures .0) _ _ _ _ _ _ (none .word) (l .word) (b .word) (r .word) (d .1 .1) (a .1 .1) in
     ((omega (arith, d .0 .0, a .0 .0), a .0 .1), (a .1 .0, is))
 
 pub start-difference-spec : {M : Type 1} → statement M

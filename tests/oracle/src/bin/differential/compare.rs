@@ -46,7 +46,7 @@ fn call(input: &Input, out: &mut [u8]) -> Numbers {
 /// Calls the library and compares. The buffer begins with random bytes, so that a byte written without need
 /// is seen. None: nothing differs.
 pub fn difference(random: &mut Random, input: &Input, expected: &Expected) -> Option<String> {
-    let mut wanted: Vec<u8> = (0..input.out_len + 2 * GUARD).map(|_| random.number() as u8).collect();
+    let mut wanted = random.bytes(input.out_len + 2 * GUARD);
     let mut buffer = wanted.clone();
     let numbers = call(input, &mut buffer[GUARD..GUARD + input.out_len]);
     wanted[GUARD..GUARD + expected.output.len()].copy_from_slice(&expected.output);

@@ -1,17 +1,25 @@
 //! Every small change of some kinds: all cuts of E, all its lines dropped, doubled and exchanged, some bytes
-//! put at every place; many values of p; every product of two elements of GF(256) other than 0; and every pair of
-//! leading coefficients of E, and inverses of leading coefficients in many fields.
+//! put at every place; many values of p; every product of two elements of GF(256) other than 0; every pair of
+//! leading coefficients of E, and inverses of leading coefficients in many fields; and every few short leading words,
+//! inside one another or not.
 
 use crate::input::{Input, Service, SERVICES};
 use crate::surround::Sink;
+use oracle::formula::formula_text;
 use oracle::generate::draft::Draft;
 use oracle::generate::edits::{made, E};
+use oracle::generate::families::monomials;
 use oracle::generate::inverses::{every_inverse, Inverses};
 use oracle::generate::products::every_product;
 use oracle::generate::rows_256::e_256;
 use oracle::generate::scale::scale;
 use oracle::generate::scaled_rows::scaled_e;
+use oracle::generate::small_words::{every_basis, every_word};
+use oracle::generate::untrim::{in_order, with_copies};
+use oracle::generate::untrimmed_rows::longer_way;
 use oracle::package::read;
+use oracle::poly::{lead_word, Poly};
+use oracle::word::Word;
 
 const FORMULA: &[u8] = b"coef word\n1 aba\n";
 
@@ -40,6 +48,59 @@ pub fn exhaustive(sink: Sink) {
         }
     }
     every_lead(sink);
+    every_few_words(sink);
+    every_order(sink);
+}
+
+/// Every two monomials of up to three letters, and every three of up to two, the empty word among them: checked,
+/// listed, and all words of up to three letters brought to a short form. Of three each has its own leading coefficient.
+fn every_few_words(sink: Sink) {
+    let formula = formula_text(&every_word(3).into_iter().map(|word| (word, 1)).collect());
+    for basis in every_basis(2, 3).chain(every_basis(3, 2)) {
+        let words: Vec<Word> = basis.iter().map(|f| lead_word(f).clone()).collect();
+        let mut draft = monomials(7, 2, &words);
+        if words.len() == 3 {
+            (1..=3).for_each(|item| scale(&mut draft, item, item + 1));
+        }
+        let (package, formula) = (&draft.text()[..], &formula[..]);
+        for service in [Service::Check, Service::List, Service::ShortForm] {
+            sink(&Input { service, package, formula, budget: 15, out_len: 1_000, null: false });
+        }
+    }
+}
+
+/// E with two more polynomials, in every order of the four: by the lower number, words take more steps or fewer.
+fn every_order(sink: Sink) {
+    let draft = longer_way_twice();
+    for order in orders(4) {
+        let package = &in_order(&draft, &order).expect("differences of an ideal's polynomials").text()[..];
+        let mut call = |service, formula: &[u8]| {
+            sink(&Input { service, package, formula, budget: 9, out_len: 1_000, null: false })
+        };
+        call(Service::Check, b"");
+        call(Service::List, b"");
+        for word in every_word(4).into_iter().filter(|word| word.len() == 4) {
+            call(Service::ShortForm, &formula_text(&Poly::from([(word, 1)])));
+        }
+    }
+}
+
+/// E with `aab` - `aba` and with `ab` - `ba` once more.
+fn longer_way_twice() -> Draft {
+    let package = longer_way(&[1, 2, 3]);
+    let draft = Draft::of_package(&read(package.as_bytes()).expect("a package that reads"));
+    with_copies(&draft, &[2]).expect("differences of an ideal's polynomials")
+}
+
+/// Every order of the numbers 1 to n.
+fn orders(n: u64) -> Vec<Vec<u64>> {
+    if n == 0 {
+        return vec![Vec::new()];
+    }
+    let with_last = |order: Vec<u64>| {
+        (0..=order.len()).map(move |place| [&order[..place], &[n], &order[place..]].concat())
+    };
+    orders(n - 1).into_iter().flat_map(with_last).collect()
 }
 
 /// E with every pair of leading coefficients, over GF(256) each element and another; and inverses in many fields.

@@ -1,18 +1,22 @@
 //! The inputs that every run begins with: rows with known answers, and both sides of every bound.
 
 use crate::input::{Input, Service, SERVICES};
-use crate::surround::{around_formula, around_list, Sink};
+use crate::surround::{around_formula, around_list, list_edges, Sink};
 use oracle::formula::formula_text;
 use oracle::generate::bound_packages::bound_packages;
 use oracle::generate::edits::E;
 use oracle::generate::families;
 use oracle::generate::formula_rows::{formula_rows, FormulaRow};
 use oracle::generate::growth::{spreading, spreading_formula};
+use oracle::generate::inside_bounds::inside_bounds;
+use oracle::generate::list_rows::{list_rows, ListRow};
 use oracle::generate::package_rows::package_rows;
 use oracle::generate::random::Random;
 use oracle::generate::rows_256::{doubled_256, e_256, formula_rows_256, package_rows_256};
 use oracle::generate::scale::scale_all;
 use oracle::generate::scaled_rows::{scaled_formula_rows, scaled_package_rows};
+use oracle::generate::untrim::with_copies;
+use oracle::generate::untrimmed_rows::{untrimmed_formula_rows, untrimmed_package_rows};
 use oracle::services::short_form;
 use std::collections::BTreeSet;
 
@@ -43,7 +47,8 @@ pub fn fixed(sink: Sink) {
         }
     }
     over_256(random, sink);
-    scaled(random, sink);
+    formulas(random, scaled_formula_rows(), sink);
+    untrimmed(random, sink);
     growing(random, sink);
     counting(sink);
 }
@@ -66,10 +71,32 @@ fn over_256(random: &mut Random, sink: Sink) {
     }
 }
 
-/// Formulas with known answers under packages that lead with other coefficients than 1, and around those of them
-/// that get a short form.
-fn scaled(random: &mut Random, sink: Sink) {
-    for (package, rows) in scaled_formula_rows() {
+/// Packages whose leading words stand inside one another: rows with known answers, lists into room about the one
+/// needed, packages at the bounds, and formulas.
+fn untrimmed(random: &mut Random, sink: Sink) {
+    let formula = b"coef word\n1 baab\n";
+    for row in untrimmed_package_rows() {
+        for service in SERVICES {
+            let (package, out_len) = (&row.package[..], 1_000);
+            sink(&Input { service, package, formula, budget: 2, out_len, null: false });
+        }
+    }
+    list_rows().iter().for_each(|ListRow { package, .. }| around_list(random, package, sink));
+    for row in inside_bounds() {
+        let package = &row.package[..];
+        sink(&Input { service: Service::Check, package, formula: b"", budget: 0, out_len: 0, null: false });
+        if row.check.0 == 0 {
+            list_edges(package, sink);
+            let (service, out_len) = (Service::ShortForm, 100);
+            sink(&Input { service, package, formula, budget: 1, out_len, null: false });
+        }
+    }
+    formulas(random, untrimmed_formula_rows(), sink);
+}
+
+/// Formulas with known answers under packages of their own, and around those of them that get a short form.
+fn formulas(random: &mut Random, packages: Vec<(String, Vec<FormulaRow>)>, sink: Sink) {
+    for (package, rows) in packages {
         let package = package.as_bytes();
         for FormulaRow { formula, budget, .. } in &rows {
             for service in [Service::ShortForm, Service::Member] {
@@ -114,13 +141,16 @@ fn growing(random: &mut Random, sink: Sink) {
             }
         }
     }
-    // The same with other leading coefficients than 1.
+    // The same with other leading coefficients than 1, and with the polynomial twice.
     for p in [7, 256, 65_521] {
         for (terms, reducible) in [(31, 16), (31, 17), (33, 14), (33, 15)] {
             let mut draft = spreading(random, p, terms);
-            scale_all(random, &mut draft);
-            let formula = formula_text(&spreading_formula(random, p, 48, reducible));
-            around_formula(random, &draft.text(), &formula, sink);
+            let copied = with_copies(&draft, &[1]).expect("a difference that is zero");
+            for draft in [&mut draft, &mut copied.clone()] {
+                scale_all(random, draft);
+                let formula = formula_text(&spreading_formula(random, p, 48, reducible));
+                around_formula(random, &draft.text(), &formula, sink);
+            }
         }
     }
 }

@@ -20,14 +20,15 @@ impl Service {
         }
     }
 
-    /// Whether the service can answer with this number: 0 for success, else a refusal.
+    /// Whether the service can answer with this number: 0 for success, else a refusal. There is no refusal 9.
     pub fn can_answer(self, number: usize) -> bool {
-        match self {
+        let judged = match self {
             Service::Check => number <= 15,
-            Service::List => number <= 9 || number == 19,
+            Service::List => number <= 8 || number == 19,
             Service::ShortForm => number <= 19,
             Service::Member => number <= 18,
-        }
+        };
+        judged && number != 9
     }
 }
 

@@ -9,8 +9,10 @@
 mod casefile;
 mod compare;
 mod exhaustive;
+mod facts;
 mod fixed;
 mod input;
+mod inside;
 mod options;
 mod packing;
 mod part;
@@ -22,6 +24,7 @@ mod ways;
 
 use casefile::CaseFile;
 use compare::shown;
+use facts::Facts;
 use input::Input;
 use options::Options;
 use oracle::generate::draft::Draft;
@@ -45,7 +48,9 @@ struct Run {
     round: Option<u64>,
     bytes: Random,
     cases: Option<CaseFile>,
+    facts: Facts,
     tally: Tally,
+    inside: Ways<14>,
     places: Ways<8>,
     packings: Ways<7>,
 }
@@ -57,7 +62,12 @@ impl Run {
         if let Some(cases) = &mut self.cases {
             written(cases.write(input, &expected));
         }
-        self.tally.count(input, &expected);
+        let facts = self.facts.of(input.package);
+        self.tally.count(&facts.parts, input.service, &expected);
+        if let Some(package) = &facts.untrimmed {
+            let ways = inside::found(package, input, &expected);
+            ways.into_iter().for_each(|way| self.inside.count(way, self.round.is_some()));
+        }
         if let Some(message) = compare::difference(&mut self.bytes, input, &expected) {
             println!("DIFFERENCE in input {}, {}", self.tally.inputs(), input.service.name());
             self.report_round();
@@ -153,9 +163,17 @@ fn main() {
         CaseFile::create(path).unwrap_or_else(|error| options::stop(&format!("{path}: {error}")))
     });
     let examples = examples(EXAMPLES).unwrap_or_else(|error| options::stop(&error));
-    let bytes = Random::new(options.seed, u64::MAX);
-    let (tally, places, packings) = (Tally::default(), standing::ways(), packing::ways());
-    let mut run = Run { seed: options.seed, round: None, bytes, cases, tally, places, packings };
+    let mut run = Run {
+        seed: options.seed,
+        round: None,
+        bytes: Random::new(options.seed, u64::MAX),
+        cases,
+        facts: Facts::default(),
+        tally: Tally::default(),
+        inside: inside::ways(),
+        places: standing::ways(),
+        packings: packing::ways(),
+    };
     if let Some(number) = options.round {
         run.round(number, &examples);
         println!("round {number} of seed {}", options.seed);
@@ -171,10 +189,14 @@ fn main() {
         run.round(number, &examples);
     }
     run.tally.print();
+    run.inside.print();
     run.places.print();
+    run.places.print_all();
     run.packings.print();
+    run.packings.print_all();
     let rounds = run.tally.rounds;
-    let missing = [run.tally.missing(), run.places.missing(rounds), run.packings.missing(rounds)].concat();
+    let words = [run.places.missing(rounds), run.packings.missing(rounds)].concat();
+    let missing = [run.tally.missing(), run.inside.missing(rounds), words].concat();
     missing.iter().for_each(|line| println!("{line}"));
     run.print_totals();
     if !missing.is_empty() {

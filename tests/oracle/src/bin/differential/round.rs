@@ -4,22 +4,45 @@ use crate::input::{Input, SERVICES};
 use crate::surround::{around_formula, around_list, Sink};
 use oracle::formula::formula_text;
 use oracle::generate::bound_packages::near_bound;
-use oracle::generate::damage_draft::aim;
+use oracle::generate::damage_draft::{aim, Aim};
 use oracle::generate::damage_text::damage;
 use oracle::generate::draft::Draft;
 use oracle::generate::formulas::Ground;
-use oracle::generate::growth::{growing_sum, meeting_formula, spreading, spreading_formula, Lines};
+use oracle::generate::growth::{growing_sum, meeting_formula, spreading, spreading_formula, Lines, TARGETS};
 use oracle::generate::random::Random;
 use oracle::generate::relations::field;
 use oracle::generate::scale::scale_some;
+use oracle::generate::untrim::untrimmed;
 use oracle::generate::valid::valid;
 
 /// How many rounds one of them takes an example package instead of a generated one.
 const EXAMPLE: u64 = 40;
 
-/// What `aim` is asked for: the refusals that need more than one line to be reached stand more than once, and
-/// 16 stands for any coefficient.
-const AIMS: [u64; 18] = [3, 4, 5, 5, 6, 6, 8, 9, 9, 11, 12, 13, 13, 14, 14, 14, 15, 16];
+/// What `aim` is asked for: what needs more than one line to be reached stands more than once.
+const AIMS: [Aim; 22] = [
+    Aim::P,
+    Aim::Counts,
+    Aim::Bounds,
+    Aim::Bounds,
+    Aim::Order,
+    Aim::Order,
+    Aim::Zero,
+    Aim::BasisSum,
+    Aim::RelationSum,
+    Aim::ListSum,
+    Aim::ListSum,
+    Aim::OtherList,
+    Aim::OtherList,
+    Aim::NotBelow,
+    Aim::NotBelow,
+    Aim::NotBelow,
+    Aim::AboveCount,
+    Aim::AboveCount,
+    Aim::LeadingWord,
+    Aim::LeadingWord,
+    Aim::Exchange,
+    Aim::Coefficient,
+];
 
 pub fn round(random: &mut Random, examples: &[Draft], sink: Sink) {
     let draft = if random.one_in(EXAMPLE) { example(random, examples) } else { valid(random) };
@@ -44,8 +67,8 @@ pub fn round(random: &mut Random, examples: &[Draft], sink: Sink) {
         let mut aimed = draft.clone();
         // Two faults in one package show which refusal comes first.
         for _ in 0..random.between(1, 2) {
-            let number = *random.pick(&AIMS);
-            aim(random, &mut aimed, number);
+            let at = *random.pick(&AIMS);
+            aim(random, &mut aimed, at);
         }
         let formula = ground.formula(random);
         let mut text = aimed.text();
@@ -67,9 +90,12 @@ pub fn round(random: &mut Random, examples: &[Draft], sink: Sink) {
     }
 }
 
-/// An example package, often with other leading coefficients.
+/// An example package, often with more basis polynomials or with other leading coefficients.
 fn example(random: &mut Random, examples: &[Draft]) -> Draft {
     let mut draft = random.pick(examples).clone();
+    if random.one_in(2) {
+        draft = untrimmed(random, &draft).unwrap_or(draft);
+    }
     scale_some(random, &mut draft);
     draft
 }
@@ -88,10 +114,10 @@ fn all_services(random: &mut Random, package: &[u8], formula: &[u8], sink: Sink)
 /// A sum and a formula that come near 512 terms.
 fn growing(random: &mut Random, sink: Sink) {
     let p = field(random);
-    let kind = *random.pick(&['B', 'G', 'O']);
+    let target = *random.pick(&TARGETS);
     let top = random.between(505, 520) as usize;
     let lines = if random.one_in(2) { Lines::Mixed } else { Lines::UpAndDown };
-    let mut draft = growing_sum(random, p, kind, top, lines);
+    let mut draft = growing_sum(random, p, target, top, lines);
     scale_some(random, &mut draft);
     all_services(random, &draft.text(), b"coef word\n1 acac\n", sink);
     let terms = random.between(20, 48) as usize;

@@ -28,8 +28,11 @@ const NAMES: [&str; 8] = [
     "it would run past 64 bits",
 ];
 
+/// So many random rounds must meet every way: each has one such word for each of its inputs.
+const ROUNDS: u64 = 20;
+
 pub fn ways() -> Ways<{ NAMES.len() }> {
-    Ways::new("a word at a place of another", NAMES)
+    Ways::new("a word at a place of another", NAMES.map(|name| (name, ROUNDS)))
 }
 
 pub fn expect(at: &AtPlace) -> Stood {

@@ -25,6 +25,14 @@ pub fn around_list(random: &mut Random, package: &[u8], sink: Sink) {
     }
 }
 
+/// Lists a package into a byte too few and into just enough: for lists that are long.
+pub fn list_edges(package: &[u8], sink: Sink) {
+    let need = list_overlaps(package, usize::MAX).output.map_or(0, |output| output.len());
+    for out_len in [need.max(1) - 1, need] {
+        sink(&Input { service: Service::List, package, formula: b"", budget: 0, out_len, null: true });
+    }
+}
+
 /// Short form and membership with budgets about the steps needed, and outputs about the bytes needed.
 pub fn around_formula(random: &mut Random, package: &[u8], formula: &[u8], sink: Sink) {
     let answer = short_form(package, formula, STEPS, usize::MAX);

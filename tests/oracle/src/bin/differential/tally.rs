@@ -2,8 +2,8 @@
 //! silently stop testing.
 
 use crate::compare::Expected;
-use crate::input::{Input, Service, SERVICES};
-use crate::part::{parts, Part, PARTS};
+use crate::input::{Service, SERVICES};
+use crate::part::{Part, PARTS};
 
 #[derive(Default)]
 struct Counts {
@@ -54,6 +54,9 @@ impl Counts {
         if part.is_scaled() {
             reached.push(("steps with another leading coefficient", self.divided));
         }
+        if part.is_untrimmed() {
+            reached.push(("lists with inclusions", self.of(Service::List, 0)));
+        }
         reached
     }
 }
@@ -61,25 +64,26 @@ impl Counts {
 #[derive(Default)]
 pub struct Tally {
     /// By part.
-    whole: [Counts; 4],
+    whole: [Counts; PARTS.len()],
     /// Those of random rounds.
-    drawn: [Counts; 4],
+    drawn: [Counts; PARTS.len()],
     /// How many random rounds there were.
     pub rounds: u64,
 }
 
 impl Tally {
-    pub fn count(&mut self, input: &Input, expected: &Expected) {
-        for part in parts(input.package) {
-            self.whole[part as usize].count(input.service, expected);
+    /// Counts an input of these parts.
+    pub fn count(&mut self, parts: &[Part], service: Service, expected: &Expected) {
+        for part in parts {
+            self.whole[part.index()].count(service, expected);
             if self.rounds > 0 {
-                self.drawn[part as usize].count(input.service, expected);
+                self.drawn[part.index()].count(service, expected);
             }
         }
     }
 
     pub fn inputs(&self) -> u64 {
-        self.whole[Part::All as usize].inputs()
+        self.whole[0].inputs()
     }
 
     /// Prints the tables of numbers, and what was reached in each part.
@@ -90,7 +94,7 @@ impl Tally {
         let rounds = format!(" in {} random rounds", self.rounds);
         for part in PARTS {
             for (what, counts) in [("", &self.whole), (&rounds, &self.drawn)] {
-                let reached = counts[part as usize].reached(part);
+                let reached = counts[part.index()].reached(part);
                 let shown: Vec<String> =
                     reached.iter().map(|(name, count)| format!("{count} {name}")).collect();
                 println!("{}{what}: {}", part.name(), shown.join(", "));
@@ -108,14 +112,14 @@ impl Tally {
         let names: Vec<String> = parts.iter().map(|part| format!("{:^47}", part.name())).collect();
         println!("{:10} {}", "", names.join("    "));
         row("number", &|_, service| service.name().to_string());
-        for number in 0..20 {
-            row(&number.to_string(), &|part, service| match self.whole[part as usize].of(service, number) {
+        for number in (0..20).filter(|number| *number != 9) {
+            row(&number.to_string(), &|part, service| match self.whole[part.index()].of(service, number) {
                 0 if !part.can_answer(service, number) => "-".to_string(),
                 count => count.to_string(),
             });
         }
         row("all", &|part, service| {
-            self.whole[part as usize].numbers[service as usize].iter().sum::<u64>().to_string()
+            self.whole[part.index()].numbers[service as usize].iter().sum::<u64>().to_string()
         });
     }
 
@@ -123,7 +127,7 @@ impl Tally {
     pub fn missing(&self) -> Vec<String> {
         let mut missing = Vec::new();
         for part in PARTS {
-            let counts = &self.whole[part as usize];
+            let counts = &self.whole[part.index()];
             for service in SERVICES {
                 for number in (0..20).filter(|number| part.can_answer(service, *number)) {
                     if counts.of(service, number) == 0 {
@@ -133,7 +137,7 @@ impl Tally {
             }
             let mut sides = vec![("", counts)];
             if self.rounds >= part.rounds() {
-                sides.push((" in random rounds", &self.drawn[part as usize]));
+                sides.push((" in random rounds", &self.drawn[part.index()]));
             }
             for (what, counts) in sides {
                 for (name, _) in counts.reached(part).into_iter().filter(|(_, count)| *count == 0) {

@@ -1,18 +1,18 @@
 //! How often each way to answer was met, for what is compared below the services.
 
-/// So many random rounds must meet every way: each has one such word for each of its inputs.
-const ROUNDS: u64 = 20;
+/// A way by its name, and how many random rounds must meet it.
+pub type Named = (&'static str, u64);
 
-/// The ways by their names, and how often each was met in the fixed inputs and in random rounds.
+/// The ways, and how often each was met in the fixed inputs and in random rounds.
 pub struct Ways<const N: usize> {
     title: &'static str,
-    names: [&'static str; N],
+    names: [Named; N],
     fixed: [u64; N],
     drawn: [u64; N],
 }
 
 impl<const N: usize> Ways<N> {
-    pub fn new(title: &'static str, names: [&'static str; N]) -> Ways<N> {
+    pub fn new(title: &'static str, names: [Named; N]) -> Ways<N> {
         Ways { title, names, fixed: [0; N], drawn: [0; N] }
     }
 
@@ -29,22 +29,28 @@ impl<const N: usize> Ways<N> {
     pub fn print(&self) {
         let row = |name, fixed, drawn| println!("{name:<34} {fixed:>11} {drawn:>11}");
         println!("{:<34} {:>11} {:>11}", self.title, "fixed", "random");
-        for (name, (fixed, drawn)) in self.names.iter().zip(self.fixed.iter().zip(self.drawn)) {
+        for ((name, _), (fixed, drawn)) in self.names.iter().zip(self.fixed.iter().zip(self.drawn)) {
             row(name, *fixed, drawn);
         }
-        row(&"all", self.fixed.iter().sum(), self.drawn.iter().sum());
+    }
+
+    /// Prints how often any way was met, where each input has one.
+    pub fn print_all(&self) {
+        let [fixed, drawn] = [self.fixed, self.drawn].map(|counts| counts.iter().sum::<u64>());
+        println!("{:<34} {fixed:>11} {drawn:>11}", "all");
     }
 
     /// The ways that were never met, in so many random rounds.
     pub fn missing(&self, rounds: u64) -> Vec<String> {
-        let mut sides = vec![("fixed inputs", &self.fixed)];
-        if rounds >= ROUNDS {
-            sides.push(("random rounds", &self.drawn));
+        let mut missing = Vec::new();
+        for ((name, needed), (fixed, drawn)) in self.names.iter().zip(self.fixed.iter().zip(self.drawn)) {
+            if *fixed == 0 {
+                missing.push(format!("never met in fixed inputs: {name}"));
+            }
+            if drawn == 0 && rounds >= *needed {
+                missing.push(format!("never met in random rounds: {name}"));
+            }
         }
-        let never = |(what, counts): (&str, &[u64; N])| {
-            let names = self.names.iter().zip(counts).filter(|(_, count)| **count == 0);
-            names.map(|(name, _)| format!("never met in {what}: {name}")).collect::<Vec<_>>()
-        };
-        sides.into_iter().flat_map(never).collect()
+        missing
     }
 }

@@ -1,2 +1,0 @@
-pub mod OverlapWalk
-pub mod OverlapDifference
