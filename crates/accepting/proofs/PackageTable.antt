@@ -1,4 +1,4 @@
--- A package that was read, and its table: what 8 and 9 refuse is refused, what the check asks holds of the table, and what it answers is the
+-- A package that was read, and its table: what 8 refuses is refused, what the check asks holds of the table, and what it answers is the
 -- package's acceptance.
 use mathlib.Core.Path.{_≡_, refl, sym, _∙_, ap, ap₂, subst}
 use mathlib.Core.List.{List}
@@ -68,7 +68,7 @@ module _ {bytes cs os ls fs : List ℕ} {h : Head} {m at n : ℕ} (r : PackageRe
   unfolding acceptance judgedBy checked
   judged v q = rw (acceptance, r .reads, judgedBy, checked, q)
 
-  -- What 8 and 9 refuse is refused.
+  -- What 8 refuses is refused.
   pub unsound-refused : (a b : ℕ) → basisJudged polys ≡ refusal a b → acceptance bytes ≡ refused a b
   unsound-refused a b q = judged (refusal a b) (then-refused (basisJudged (basis P)) sums a b (rw (r .basis) at q))
 

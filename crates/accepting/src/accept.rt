@@ -14,7 +14,7 @@ ghost use lib.ListN.{length};
 ghost use Rattle.packedterms.specs.Formula.{Room};
 ghost use Rattle.accepting.specs.Accepted.{Accepts};
 
-// Reads and checks a package: 1 to 7 in reading; then 8 and 9; then, on its table, 10 to 15. Where it is taken, t is its table. c, l, w and o are
+// Reads and checks a package: 1 to 7 in reading; then 8; then, on its table, 10 to 15. Where it is taken, t is its table. c, l, w and o are
 // scratch, and have their room afterwards.
 pub fn accept(
     package: &[u8],

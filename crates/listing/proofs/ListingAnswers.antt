@@ -14,7 +14,7 @@ use Rattle.acceptance.specs.Acceptance.{judgedBy}
 use Rattle.services.specs.Services.{listable, wordsListed, fitted, listAnswer, listOutput, listedAs, listedInto}
 use Rattle.listing.specs.ListingParts.{verdictListed, verdictOutput, basisListed, basisOutput}
 
--- A basis that is refused by 8 or 9, and one that is not.
+-- A basis that is refused by 8, and one that is not.
 module _ (ps : List Poly) where
   module _ (n k : ℕ) (e : basisJudged ps ≡ refusal n k) where
     pub refused-listed : (room : ℕ) → basisListed room ps ≡ refusedList n k

@@ -1,3 +1,3 @@
-// The listing service: a package's bytes read, refusals 8 and 9, and the list of its overlaps in the output slice, or 19.
+// The listing service: a package's bytes read, refusal 8, and the list of its overlaps and inclusions in the output slice, or 19.
 
 pub mod list;

@@ -43,14 +43,13 @@ stands-equal {u} {v} s e = go (s .left) (s .right) (s .fits)
 
 pub places-most : (a b i j : ℕ) → placesIn a b i j ≤ suc a - b
 unfolding placesIn
-places-most a b i j = go (eqb i j) (ltb b a) (ltb i j)
+places-most a b i j = go (eqb i j) refl (ltb b a) refl (ltb i j) refl
   where
-    go : (s t l : Bool)
-        → _≤_ (elim s [ true ↦ 0 | false ↦ elim t [ true ↦ suc a - b | false ↦ elim l [ true ↦ suc a - b | false ↦ 0 ] ] ]) (suc a - b)
-    go true t l = omega arith
-    go false true l = omega arith
-    go false false true = omega arith
-    go false false false = omega arith
+    go : (s : Bool) → eqb i j ≡ s → (t : Bool) → ltb b a ≡ t → (l : Bool) → ltb i j ≡ l → placesIn a b i j ≤ suc a - b
+    go true p t q l r = rw (placesIn, p) (omega arith)
+    go false p true q l r = rw (placesIn, p, q) (omega arith)
+    go false p false q true r = rw (placesIn, p, q, r) (omega arith)
+    go false p false q false r = rw (placesIn, p, q, r) (omega arith)
 
 -- a word that has places in another is another polynomial's, and of two equal words the second is the one with the higher number
 places-to : (u v : Word) (i j n : ℕ) → n < placesIn (length u) (length v) i j → (i ≢ j) × (u ≡ v → i < j)

@@ -60,7 +60,9 @@ module _ (K : Operations) (O : Order) where
     past-items : (count : ℕ) → k ≢ sumO → {ss rest : List SumLine} → Past k ss rest → itemsJudged count ss ≡ itemsJudged count rest
     unfolding itemsJudged
     past-items count d all-left = refl
-    past-items count d (one-past {s} {ss} {rest} e p) = let n : s .kind ≢ sumO = λ q. d (sym e ∙ q) in rw (itemsJudged, ne-eqb (s .kind) sumO n) (past-items count d p)
+    past-items count d (one-past {s} {ss} {rest} e p) =
+        let n : s .kind ≢ sumO = λ q. d (sym e ∙ q) in
+        rw (itemsJudged, ne-eqb (s .kind) sumO n) (past-items count d p)
 
     past-overlaps : (G : Family) (os : List Pair) → k ≢ sumO → {ss rest : List SumLine} → Past k ss rest → overlapsJudged K O G ss os 1 ≡ overlapsJudged K O G rest os 1
     past-overlaps G os d all-left = refl

@@ -1,10 +1,9 @@
 // Where a word stands in another: w is left × b × right, and the place is the number of left's letters.
 
 use crate::two_letters::two_same;
-use words::Found;
 ghost use mathlib.Core.Path.{_≡_};
 ghost use mathlib.Core.Bool.{false};
-ghost use Rattle.words.specs.Place.{standsAt, comparedAt, leftmost};
+ghost use Rattle.words.specs.Place.{standsAt, comparedAt};
 
 // Whether a word stands at a place of another, and how many letters a comparison one by one from the end takes. (C reads it in the
 // archive of crate trials.)
@@ -54,23 +53,4 @@ pub fn stands_at(b: &[u8], w: &[u8], at: usize) -> Stood
         stands: true,
         compared: b.len(),
     }
-}
-
-// The leftmost place of b in w.
-pub fn leftmost_place(b: &[u8], w: &[u8]) -> Found
-    ensures { λ r. ⌜ r ≡ leftmost (now (b .entry)) (now (w .entry)) ⌝ }
-{
-    if w.len() < b.len() {
-        return Found::Nowhere;
-    }
-    let last = w.len() - b.len();
-    let mut at = 0;
-    while at <= last {
-        let stood = stands_at(b, w, at);
-        if stood.stands {
-            return Found::At(at);
-        }
-        at += 1;
-    }
-    Found::Nowhere
 }

@@ -1,4 +1,4 @@
--- `list_basis` says 8 or 9 for a basis that has it, and else lists the overlaps of its leading words.
+-- `list_basis` says 8 for a basis that has it, and else lists the pairs of its leading words.
 use mathlib.Core.Path.{sym, _∙_}
 use Rattle.basis.proofs.BasisAnswers.{basis-refused, basis-sound, heads-sound}
 use Rattle.listing.proofs.ListingAnswers.{refused-listed, refused-kept, fine-listed, fine-written}

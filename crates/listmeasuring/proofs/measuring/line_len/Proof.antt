@@ -45,7 +45,9 @@ add-result-6 : tie.Need-add-result-6
 add-result-6 c = search needs
 
 returns : tie.Need-returns
-returns c = let s = c .before .before .before .before .before .before .before in rw (← add-one (s .args .f .first), ← add-one (s .args .f .second)) (omega arith, omega arith)
+returns c =
+    let s = c .before .before .before .before .before .before .before in
+    rw (← add-one (s .args .f .first), ← add-one (s .args .f .second)) (omega arith, omega arith)
 
 pub line-len-spec : {M : Type 1} → statement M
 line-len-spec =

@@ -18,7 +18,9 @@ first-pair-requires : tie.Need-first-pair-requires Inv-loop μ-loop
 first-pair-requires c κs = let s = c .before .before .before in (s .pre .0, (s .pre .1 .0, s .pre .1 .1))
 
 loop-holds : tie.Need-loop-holds Inv-loop μ-loop
-loop-holds c = let s = c .before .before .before .before in measuring-start _ _ _ _ (s .pre .0) (s .pre .1 .0, s .pre .1 .1) _ (s .pre .1 .2) _ (c .first-pair .ensures)
+loop-holds c =
+    let s = c .before .before .before .before in
+    measuring-start _ _ _ _ (s .pre .0) (s .pre .1 .0, s .pre .1 .1) _ (s .pre .1 .2) _ (c .first-pair .ensures)
 
 keep-pair-requires : tie.Need-keep-pair-requires Inv-loop μ-loop
 keep-pair-requires c κs = let t = c .before in let l = t .before in (pair-small _ _ _ _ _ _ _ _ (l .loop .inv) (t .loop-test .taken), l .loop .inv .room)
@@ -30,7 +32,11 @@ word-len-requires : tie.Need-word-len-requires Inv-loop μ-loop
 word-len-requires c κs = let t = c .before .before in let l = t .before in line-asked _ _ _ _ _ _ _ _ (l .loop .inv) (t .loop-test .taken) .words
 
 line-len-requires : tie.Need-line-len-requires Inv-loop μ-loop
-line-len-requires c κs = let t = c .before .before .before in let l = t .before in let q = line-asked _ _ _ _ _ _ _ _ (l .loop .inv) (t .loop-test .taken) in (omega (arith, count-few _ _ _ _ _ _ _ _ (l .loop .inv) (t .loop-test .taken)), q .first-few, q .second-few, q .shared-few, q .at-few, c .word-len .ensures .1)
+line-len-requires c κs =
+    let t = c .before .before .before in
+    let l = t .before in
+    let q = line-asked _ _ _ _ _ _ _ _ (l .loop .inv) (t .loop-test .taken) in
+    (omega (arith, count-few _ _ _ _ _ _ _ _ (l .loop .inv) (t .loop-test .taken)), q .first-few, q .second-few, q .shared-few, q .at-few, c .word-len .ensures .1)
 
 add-total : tie.Need-add-total Inv-loop μ-loop
 add-total c = let t = c .before .before .before .before in let l = t .before in omega (arith, total-few _ _ _ _ _ _ _ _ (l .loop .inv), c .line-len .ensures .1)
@@ -39,13 +45,22 @@ pair-behind-requires : tie.Need-pair-behind-requires Inv-loop μ-loop
 pair-behind-requires c κs = let t = c .before .before .before .before in let l = t .before in walk-asked _ _ _ _ _ _ (l .loop .inv .walked) (t .loop-test .taken)
 
 loop-less : tie.Need-loop-less Inv-loop μ-loop
-loop-less c = let t = c .before .before .before .before .before in let l = t .before in walk-less _ _ _ _ _ _ (l .loop .inv .walked) (t .loop-test .taken) _ (c .pair-behind .ensures)
+loop-less c =
+    let t = c .before .before .before .before .before in
+    let l = t .before in
+    walk-less _ _ _ _ _ _ (l .loop .inv .walked) (t .loop-test .taken) _ (c .pair-behind .ensures)
 
 loop-again : tie.Need-loop-again Inv-loop μ-loop
-loop-again c = let t = c .before .before .before .before .before in let l = t .before in measuring-next _ _ _ _ _ _ _ _ (l .loop .inv) (t .loop-test .taken) _ (c .before .before .before .keep-pair .ensures) _ (c .pair-behind .ensures) _ (rw (c .before .before .word-len .ensures .0) at (c .before .line-len .ensures .0)) (c .before .line-len .ensures .1)
+loop-again c =
+    let t = c .before .before .before .before .before in
+    let l = t .before in
+    measuring-next _ _ _ _ _ _ _ _ (l .loop .inv) (t .loop-test .taken) _ (c .before .before .before .keep-pair .ensures) _ (c .pair-behind .ensures) _ (rw (c .before .before .word-len .ensures .0) at (c .before .line-len .ensures .0)) (c .before .line-len .ensures .1)
 
 returns : tie.Need-returns Inv-loop μ-loop
-returns c = let l = c .before in let m = measuring-end _ _ _ _ _ _ _ _ (l .loop .inv) (c .loop-test .left) in (m .all, (m .whole, ((m .count-most, m .whole-most), (m .room, m .keeps))))
+returns c =
+    let l = c .before in
+    let m = measuring-end _ _ _ _ _ _ _ _ (l .loop .inv) (c .loop-test .left) in
+    (m .all, (m .whole, ((m .count-most, m .whole-most), (m .room, m .keeps))))
 
 pub measure-spec : {M : Type 1} → statement M
 measure-spec =

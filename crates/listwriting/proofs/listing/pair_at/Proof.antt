@@ -17,7 +17,15 @@ unpack-pair-requires : tie.Need-unpack-pair-requires
 unpack-pair-requires c κs = search needs
 
 returns : tie.Need-returns
-returns c = let s = c .before .before .before .before .before .before in let a = s .args in let t = c .before .before .if1 .taken in let (room, keeps) = s .pre .1 .1 .0 in let (more, left) = s .pre .1 .1 .1 in let kp = keeps (a .k) (omega arith) more in let e = c .unpack-pair .ensures (kp .pair) (kp .small) (kp .is) in (ap (seenPairs (laidWords (a .starts .now) (a .lens .now) (a .bytes .now) (a .n))) e ∙ kp .left ∙ sym left, λ p. subst (FoundAt (a .lens .now) (a .n)) (sym e) (kp .found))
+returns c =
+    let s = c .before .before .before .before .before .before in
+    let a = s .args in
+    let t = c .before .before .if1 .taken in
+    let (room, keeps) = s .pre .1 .1 .0 in
+    let (more, left) = s .pre .1 .1 .1 in
+    let kp = keeps (a .k) (omega arith) more in
+    let e = c .unpack-pair .ensures (kp .pair) (kp .small) (kp .is) in
+    (ap (seenPairs (laidWords (a .starts .now) (a .lens .now) (a .bytes .now) (a .n))) e ∙ kp .left ∙ sym left, λ p. subst (FoundAt (a .lens .now) (a .n)) (sym e) (kp .found))
 
 next-pair-requires : tie.Need-next-pair-requires
 next-pair-requires c κs = search needs

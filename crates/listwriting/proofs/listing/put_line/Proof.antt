@@ -16,7 +16,9 @@ add-put-numbers-2 : tie.Need-add-put-numbers-2
 add-put-numbers-2 c = search needs
 
 put-numbers-requires : tie.Need-put-numbers-requires
-put-numbers-requires c κs = let s = c .before .before .before .before .before .before in omega (arith, s .pre .1, pair-length (s .args .k) (s .args .f) (s .args .u .now) (s .args .v .now))
+put-numbers-requires c κs =
+    let s = c .before .before .before .before .before .before in
+    omega (arith, s .pre .1, pair-length (s .args .k) (s .args .f) (s .args .u .now) (s .args .v .now))
 
 sub-put-joined : tie.Need-sub-put-joined
 sub-put-joined c = search needs
@@ -28,19 +30,27 @@ part-put-joined-end : tie.Need-part-put-joined-end
 part-put-joined-end c = search needs
 
 put-joined-requires : tie.Need-put-joined-requires
-put-joined-requires c κs = let s = c .before .before .before .before .before .before .before .before .before .before .before in omega (arith, s .pre .1, pair-length (s .args .k) (s .args .f) (s .args .u .now) (s .args .v .now), ap (λ (l : List ℕ). length l) (lent-word (s .args .k) (s .args .f) (s .args .u .now) (s .args .v .now)), c .before .before .before .before .put-numbers .ensures .0)
+put-joined-requires c κs =
+    let s = c .before .before .before .before .before .before .before .before .before .before .before in
+    omega (arith, s .pre .1, pair-length (s .args .k) (s .args .f) (s .args .u .now) (s .args .v .now), ap (λ (l : List ℕ). length l) (lent-word (s .args .k) (s .args .f) (s .args .u .now) (s .args .v .now)), c .before .before .before .before .put-numbers .ensures .0)
 
 slice-write-out : tie.Need-slice-write-out
-slice-write-out c = let s = c .before .before .before .before .before .before .before .before .before .before .before .before .before .before in omega (arith, s .pre .1, pair-length (s .args .k) (s .args .f) (s .args .u .now) (s .args .v .now), ap (λ (l : List ℕ). length l) (lent-word (s .args .k) (s .args .f) (s .args .u .now) (s .args .v .now)), c .before .before .before .before .before .before .before .put-numbers .ensures .0, c .before .before .put-joined .ensures .0)
+slice-write-out c =
+    let s = c .before .before .before .before .before .before .before .before .before .before .before .before .before .before in
+    omega (arith, s .pre .1, pair-length (s .args .k) (s .args .f) (s .args .u .now) (s .args .v .now), ap (λ (l : List ℕ). length l) (lent-word (s .args .k) (s .args .f) (s .args .u .now) (s .args .v .now)), c .before .before .before .before .before .before .before .put-numbers .ensures .0, c .before .before .put-joined .ensures .0)
 
 add-result : tie.Need-add-result
-add-result c = let s = c .before .before .before .before .before .before .before .before .before .before .before .before .before .before in omega (arith, s .pre .1, pair-length (s .args .k) (s .args .f) (s .args .u .now) (s .args .v .now), ap (λ (l : List ℕ). length l) (lent-word (s .args .k) (s .args .f) (s .args .u .now) (s .args .v .now)), c .before .before .before .before .before .before .before .put-numbers .ensures .0, c .before .before .put-joined .ensures .0)
+add-result c =
+    let s = c .before .before .before .before .before .before .before .before .before .before .before .before .before .before in
+    omega (arith, s .pre .1, pair-length (s .args .k) (s .args .f) (s .args .u .now) (s .args .v .now), ap (λ (l : List ℕ). length l) (lent-word (s .args .k) (s .args .f) (s .args .u .now) (s .args .v .now)), c .before .before .before .before .before .before .before .put-numbers .ensures .0, c .before .before .put-joined .ensures .0)
 
 same-length : tie.Need-same-length
 same-length c = simp length-set (omega arith)
 
 returns : tie.Need-returns
-returns c = let s = c .before .before .before .before .before .before .before .before .before .before .before .before .before .before in pair-stored (s .args .k) (s .args .f) (s .args .u .now) (s .args .v .now) _ _ _ _ _ _ (c .before .before .before .before .before .before .before .put-numbers .ensures) (c .before .before .put-joined .ensures)
+returns c =
+    let s = c .before .before .before .before .before .before .before .before .before .before .before .before .before .before in
+    pair-stored (s .args .k) (s .args .f) (s .args .u .now) (s .args .v .now) _ _ _ _ _ _ (c .before .before .before .before .before .before .before .put-numbers .ensures) (c .before .before .put-joined .ensures)
 
 pub put-line-spec : {M : Type 1} → statement M
 put-line-spec =

@@ -9,16 +9,24 @@ put-spaced-requires : tie.Need-put-spaced-requires
 put-spaced-requires c κs = let s = c .before .before in omega (arith, five-length (s .args .item) (s .args .first) (s .args .second) (s .args .shared) (s .args .at))
 
 put-spaced-requires-2 : tie.Need-put-spaced-requires-2
-put-spaced-requires-2 c κs = let s = c .before .before .before .before .before .before in omega (arith, five-length (s .args .item) (s .args .first) (s .args .second) (s .args .shared) (s .args .at))
+put-spaced-requires-2 c κs =
+    let s = c .before .before .before .before .before .before in
+    omega (arith, five-length (s .args .item) (s .args .first) (s .args .second) (s .args .shared) (s .args .at))
 
 put-spaced-requires-3 : tie.Need-put-spaced-requires-3
-put-spaced-requires-3 c κs = let s = c .before .before .before .before .before .before .before .before .before .before in omega (arith, five-length (s .args .item) (s .args .first) (s .args .second) (s .args .shared) (s .args .at))
+put-spaced-requires-3 c κs =
+    let s = c .before .before .before .before .before .before .before .before .before .before in
+    omega (arith, five-length (s .args .item) (s .args .first) (s .args .second) (s .args .shared) (s .args .at))
 
 put-spaced-requires-4 : tie.Need-put-spaced-requires-4
-put-spaced-requires-4 c κs = let s = c .before .before .before .before .before .before .before .before .before .before .before .before .before .before in omega (arith, five-length (s .args .item) (s .args .first) (s .args .second) (s .args .shared) (s .args .at))
+put-spaced-requires-4 c κs =
+    let s = c .before .before .before .before .before .before .before .before .before .before .before .before .before .before in
+    omega (arith, five-length (s .args .item) (s .args .first) (s .args .second) (s .args .shared) (s .args .at))
 
 put-spaced-requires-5 : tie.Need-put-spaced-requires-5
-put-spaced-requires-5 c κs = let s = c .before .before .before .before .before .before .before .before .before .before .before .before .before .before .before .before .before .before in omega (arith, five-length (s .args .item) (s .args .first) (s .args .second) (s .args .shared) (s .args .at))
+put-spaced-requires-5 c κs =
+    let s = c .before .before .before .before .before .before .before .before .before .before .before .before .before .before .before .before .before .before in
+    omega (arith, five-length (s .args .item) (s .args .first) (s .args .second) (s .args .shared) (s .args .at))
 
 same-length : tie.Need-same-length
 same-length c = search needs

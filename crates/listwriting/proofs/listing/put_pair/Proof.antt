@@ -55,7 +55,11 @@ part-put-line-end-2 : tie.Need-part-put-line-end-2
 part-put-line-end-2 c = let s = c .before .before .before .before .before .before .before .before .before .before in omega (arith, s .pre .0 .1 .inside)
 
 put-line-requires : tie.Need-put-line-requires
-put-line-requires c κs = let s = c .before .before .before .before .before .before .before .before .before .before .before in let p = s .pre .1 .0 in let b = inside-length _ _ _ _ (s .pre .0 .1) in simp part-end ((p .0, p .1, rw b (p .2)), s .pre .1 .1)
+put-line-requires c κs =
+    let s = c .before .before .before .before .before .before .before .before .before .before .before in
+    let p = s .pre .1 .0 in
+    let b = inside-length _ _ _ _ (s .pre .0 .1) in
+    simp part-end ((p .0, p .1, rw b (p .2)), s .pre .1 .1)
 
 same-length : tie.Need-same-length
 same-length c = search needs

@@ -26,7 +26,11 @@ loop-holds : tie.Need-loop-holds Inv-loop μ-loop
 loop-holds c = let s = c .before .before .before .before in writing-start _ _ _ _ _ _ (s .pre .0) (s .pre .1 .0 .0) (s .pre .1 .0 .1) (s .pre .1 .1 .1)
 
 pair-at-requires : tie.Need-pair-at-requires Inv-loop μ-loop
-pair-at-requires c κs = let w = c .before .loop .inv in let s = c .before .before .before .before .before .before in let a = s .args in (w .laid, ((w .words, w .short, w .placed), ((s .pre .1 .1 .0 .0, subst (KeptPairs (a .lens .now) (a .n) (laidWords (a .starts .now) (a .lens .now) (a .bytes .now) (a .n)) (a .kept .now)) (s .pre .1 .0 .2) (s .pre .1 .1 .0 .1)), (more c, w .left))))
+pair-at-requires c κs =
+    let w = c .before .loop .inv in
+    let s = c .before .before .before .before .before .before in
+    let a = s .args in
+    (w .laid, ((w .words, w .short, w .placed), ((s .pre .1 .1 .0 .0, subst (KeptPairs (a .lens .now) (a .n) (laidWords (a .starts .now) (a .lens .now) (a .bytes .now) (a .n)) (a .kept .now)) (s .pre .1 .0 .2) (s .pre .1 .1 .0 .1)), (more c, w .left))))
 
 add-k : tie.Need-add-k Inv-loop μ-loop
 add-k c = omega (arith, number-few _ _ _ _ _ _ _ _ _ _ (c .before .before .loop .inv) (more (c .before)))
@@ -47,7 +51,11 @@ same-length : tie.Need-same-length Inv-loop μ-loop
 same-length c = c .before .loop .inv .same-length
 
 returns : tie.Need-returns Inv-loop μ-loop
-returns c = let s = c .before .before .before .before .before .before in let e = s .pre .1 .0 .2 in let l = c .loop-test .left in writing-end _ _ _ _ _ _ _ _ _ _ (c .before .loop .inv) (omega arith)
+returns c =
+    let s = c .before .before .before .before .before .before in
+    let e = s .pre .1 .0 .2 in
+    let l = c .loop-test .left in
+    writing-end _ _ _ _ _ _ _ _ _ _ (c .before .loop .inv) (omega arith)
 
 pub write-lines-spec : {M : Type 1} → statement M
 write-lines-spec =

@@ -31,16 +31,29 @@ shared-slice-read-pair-found : tie.Need-shared-slice-read-pair-found Inv-loop μ
 shared-slice-read-pair-found c = search needs
 
 mul-pair-found-2 : tie.Need-mul-pair-found-2 Inv-loop μ-loop
-mul-pair-found-2 c = let t = c .before .before .before .before in let l = t .before .before .before in omega (arith, both-inside _ _ _ _ _ _ (l .loop .inv) (t .before .if1 .taken) .0 .1 .ending)
+mul-pair-found-2 c =
+    let t = c .before .before .before .before in
+    let l = t .before .before .before in
+    omega (arith, both-inside _ _ _ _ _ _ (l .loop .inv) (t .before .if1 .taken) .0 .1 .ending)
 
 shared-slice-read-pair-found-2 : tie.Need-shared-slice-read-pair-found-2 Inv-loop μ-loop
-shared-slice-read-pair-found-2 c = let t = c .before .before .before .before .before in let l = t .before .before .before in omega (arith, both-inside _ _ _ _ _ _ (l .loop .inv) (t .before .if1 .taken) .0 .1 .ending)
+shared-slice-read-pair-found-2 c =
+    let t = c .before .before .before .before .before in
+    let l = t .before .before .before in
+    omega (arith, both-inside _ _ _ _ _ _ (l .loop .inv) (t .before .if1 .taken) .0 .1 .ending)
 
 pair-found-requires : tie.Need-pair-found-requires Inv-loop μ-loop
-pair-found-requires c κs = let t = c .before .before .before .before .before in let l = t .before .before .before in number-within _ _ _ _ _ (l .loop .c) (l .loop .inv) (t .before .if1 .taken) _ (sym (t .number-at .ensures) ∙ c .before .before .before .found .given .1)
+pair-found-requires c κs =
+    let t = c .before .before .before .before .before in
+    let l = t .before .before .before in
+    number-within _ _ _ _ _ (l .loop .c) (l .loop .inv) (t .before .if1 .taken) _ (sym (t .number-at .ensures) ∙ c .before .before .before .found .given .1)
 
 returns : tie.Need-returns Inv-loop μ-loop
-returns c = let t = c .before .before .before .before .before .before in let l = t .before .before .before in let z = searching-found _ _ _ _ _ (l .loop .c) (l .loop .inv) (t .before .if1 .taken) _ (sym (t .number-at .ensures) ∙ c .before .before .before .before .found .given .1) in rw (c .pair-found .ensures) (z .0, λ p. z .1)
+returns c =
+    let t = c .before .before .before .before .before .before in
+    let l = t .before .before .before in
+    let z = searching-found _ _ _ _ _ (l .loop .c) (l .loop .inv) (t .before .if1 .taken) _ (sym (t .number-at .ensures) ∙ c .before .before .before .before .found .given .1) in
+    rw (c .pair-found .ensures) (z .0, λ p. z .1)
 
 enum-told : tie.Need-enum-told Inv-loop μ-loop
 enum-told c = search needs
@@ -49,10 +62,16 @@ next-row-requires : tie.Need-next-row-requires Inv-loop μ-loop
 next-row-requires c κs = let t = c .before .before .before in let l = t .before .before in both-in _ _ _ _ _ _ (l .loop .inv) (t .if1 .taken)
 
 loop-less : tie.Need-loop-less Inv-loop μ-loop
-loop-less c = let t = c .before .before .before .before in let l = t .before .before in rw (c .next-row .ensures) (row-falls _ _ _ _ _ (l .loop .c) (l .loop .inv) (t .if1 .taken))
+loop-less c =
+    let t = c .before .before .before .before in
+    let l = t .before .before in
+    rw (c .next-row .ensures) (row-falls _ _ _ _ _ (l .loop .c) (l .loop .inv) (t .if1 .taken))
 
 loop-again : tie.Need-loop-again Inv-loop μ-loop
-loop-again c = let t = c .before .before .before in let l = t .before .before .before in rw (c .next-row .ensures) (searching-next _ _ _ _ _ (l .loop .c) (l .loop .inv) (t .before .if1 .taken) (sym (t .number-at .ensures) ∙ c .before .enum-told .given .1))
+loop-again c =
+    let t = c .before .before .before in
+    let l = t .before .before .before in
+    rw (c .next-row .ensures) (searching-next _ _ _ _ _ (l .loop .c) (l .loop .inv) (t .before .if1 .taken) (sym (t .number-at .ensures) ∙ c .before .enum-told .given .1))
 
 returns-2 : tie.Need-returns-2 Inv-loop μ-loop
 returns-2 c = let l = c .before .before in (searching-end _ _ _ _ _ (l .loop .c) (l .loop .inv) (c .if1 .left) _ refl, λ x. absurd (true≢false (sym x)))

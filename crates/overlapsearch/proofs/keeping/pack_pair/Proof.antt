@@ -30,7 +30,9 @@ flag-requires : tie.Need-flag-requires
 flag-requires c κs = search needs
 
 add-result-2 : tie.Need-add-result-2
-add-result-2 c = let s = c .before .before .before .before .before in omega (arith, c .flag .ensures, flag-most (s .args .f .inside), s .pre .first, s .pre .second, s .pre .shared, s .pre .at)
+add-result-2 c =
+    let s = c .before .before .before .before .before in
+    omega (arith, c .flag .ensures, flag-most (s .args .f .inside), s .pre .first, s .pre .second, s .pre .shared, s .pre .at)
 
 returns : tie.Need-returns
 returns c = packed-as _ _ (c .flag .ensures)

@@ -12,7 +12,12 @@ lesser-requires : tie.Need-lesser-requires
 lesser-requires c κs = search needs
 
 right-part-requires : tie.Need-right-part-requires
-right-part-requires c κs = let p = c .before .before .before .lead-word .ensures in let i = c .before .before .lesser .ensures in let s = c .before .before .before .before .before in let f = p .few in ((omega arith, omega arith, s .pre .2, p .six), p .packs)
+right-part-requires c κs =
+    let p = c .before .before .before .lead-word .ensures in
+    let i = c .before .before .lesser .ensures in
+    let s = c .before .before .before .before .before in
+    let f = p .few in
+    ((omega arith, omega arith, s .pre .2, p .six), p .packs)
 
 sub-result : tie.Need-sub-result
 sub-result c = let i = c .before .before .before .lesser .ensures in omega arith
@@ -21,7 +26,12 @@ mul-result : tie.Need-mul-result
 mul-result c = let p = c .before .before .before .before .lead-word .ensures in let f = p .few in record { fits = omega arith }
 
 returns : tie.Need-returns
-returns c = let p = c .before .before .before .before .lead-word .ensures in let i = c .before .before .before .lesser .ensures in let s = c .before .before .before .before .before .before in let (a, b) = c .right-part .ensures in back-short (s .pre .0) _ p _ (a .0) _ _ i (a .1) b
+returns c =
+    let p = c .before .before .before .before .lead-word .ensures in
+    let i = c .before .before .before .lesser .ensures in
+    let s = c .before .before .before .before .before .before in
+    let (a, b) = c .right-part .ensures in
+    back-short (s .pre .0) _ p _ (a .0) _ _ i (a .1) b
 
 pub lead-back-spec : {M : Type 1} → statement M
 lead-back-spec =

@@ -42,7 +42,14 @@ size-in-requires : tie.Need-size-in-requires
 size-in-requires c κs = first-few c
 
 returns : tie.Need-returns
-returns c = let x = c .before in let s = x .before .before in let t = s .args .t .now in let e = c .size-in .ensures ∙ ap (sizeIn t) (first-is x) in let L = leading s in let few = s .pre .0 .short _ (L .inside) in (ap (λ (z : ℕ). z % 256) e ∙ sym (L .letters), rw e few)
+returns c =
+    let x = c .before in
+    let s = x .before .before in
+    let t = s .args .t .now in
+    let e = c .size-in .ensures ∙ ap (sizeIn t) (first-is x) in
+    let L = leading s in
+    let few = s .pre .0 .short _ (L .inside) in
+    (ap (λ (z : ℕ). z % 256) e ∙ sym (L .letters), rw e few)
 
 pub lead-len-spec : {M : Type 1} → statement M
 lead-len-spec =

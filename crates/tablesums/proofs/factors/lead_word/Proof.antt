@@ -82,7 +82,15 @@ size-in-requires : tie.Need-size-in-requires
 size-in-requires c κs = first-few (c .before .before .before)
 
 returns : tie.Need-returns
-returns c = let x = c .before .before .before .before in let s = x .before .before in let t = s .args .t .now in let w = c .before .before .before .word-at in let size = s .pre .0 .size in let room = w .ensures .0 in let blocks = sym (two-entries t (w .result) (omega arith)) ∙ w .ensures .1 t ∙ ap (blocksIn t) (first-is x) in lead-packed (s .pre .0) _ (leading s) _ _ (c .size-in .ensures ∙ ap (sizeIn t) (first-is x)) (sets-whole (s .args .dst .now) (getD t (w .result) 0 ∷ getD t (w .result + 1) 0 ∷ 0 ∷ 0 ∷ 0 ∷ 0 ∷ []) (s .pre .2) ∙ ap (λ (u : List ℕ). u ++ replicate 4 0) blocks)
+returns c =
+    let x = c .before .before .before .before in
+    let s = x .before .before in
+    let t = s .args .t .now in
+    let w = c .before .before .before .word-at in
+    let size = s .pre .0 .size in
+    let room = w .ensures .0 in
+    let blocks = sym (two-entries t (w .result) (omega arith)) ∙ w .ensures .1 t ∙ ap (blocksIn t) (first-is x) in
+    lead-packed (s .pre .0) _ (leading s) _ _ (c .size-in .ensures ∙ ap (sizeIn t) (first-is x)) (sets-whole (s .args .dst .now) (getD t (w .result) 0 ∷ getD t (w .result + 1) 0 ∷ 0 ∷ 0 ∷ 0 ∷ 0 ∷ []) (s .pre .2) ∙ ap (λ (u : List ℕ). u ++ replicate 4 0) blocks)
 
 pub lead-word-spec : {M : Type 1} → statement M
 lead-word-spec =
