@@ -12,7 +12,7 @@ use Rattle.lists.specs.All.{All, done, _also_}
 use Rattle.words.specs.Order.{Order, Admissible}
 use Rattle.algebra.specs.Poly.{Poly}
 use Rattle.algebra.specs.Written.{Written}
-use Rattle.algebra.specs.Ideal.{Family, family, Line, Over, InIdeal}
+use Rattle.algebra.specs.Ideal.{Family, family, Over, InIdeal}
 use Rattle.algebra.specs.Groebner.{Led}
 use Rattle.algebra.specs.Short.{Accepted}
 use Rattle.algebra.proofs.Sums.{ideal-zero}

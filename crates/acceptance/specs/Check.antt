@@ -118,7 +118,7 @@ unfoldable pub basisJudged : List Poly → Verdict
 unfolding zerosJudged
 basisJudged ps = zerosJudged ps 1
 
--- The kinds of sums; then 15; then the overlaps.
+-- The kinds of sums; then 15; then the overlaps and inclusions.
 unfoldable pub sumsVerdict : Operations → Order → List Poly → List Poly → List SumLine → Verdict
 unfolding kindsJudged itemsJudged overlapsJudged thenJudge leads overlaps family
 sumsVerdict K O rs ps ss =
@@ -126,7 +126,7 @@ sumsVerdict K O rs ps ss =
     (thenJudge (itemsJudged (length (overlaps (leads ps))) ss)
     (overlapsJudged K O (family ps) ss (overlaps (leads ps)) 1))
 
--- The check of a package that reads: the basis; the kinds of sums; 15; the overlaps.
+-- The check of a package that reads: the basis; the kinds of sums; 15; the overlaps and inclusions.
 unfoldable pub checked : Package → Verdict
 unfolding basisJudged sumsVerdict thenJudge relations basis fieldOf wordOrder
 checked P = thenJudge (basisJudged (basis P)) (sumsVerdict (fieldOf (P .head .p)) wordOrder (relations P) (basis P) (P .sums))

@@ -16,7 +16,7 @@ use Rattle.overlaps.specs.Overlaps.{leads, overlaps, overlapWord, difference}
 use Rattle.package.specs.Names.{sumB, sumG, sumO}
 use Rattle.package.specs.Sums.{SumLine}
 use Rattle.package.specs.Package.{Package}
-use Rattle.acceptance.specs.Content.{relations, basis, lineOf, sumOf, linesOf}
+use Rattle.acceptance.specs.Content.{relations, basis, sumOf, linesOf}
 
 -- No line of a sum meets refusal 10: after each line, target minus the sum so far has at most 512 terms.
 abbrev pub FewTerms : Operations → Order → Family → Poly → List Line → Type 0

@@ -1,4 +1,4 @@
--- 64 words of at most 24 letters have at most 98,304 pairs: no item of the list has over five digits.
+-- At most 64 words of at most 24 letters have at most 98,304 pairs: no item of the list has over five digits.
 use mathlib.Core.Path.{_≡_, sym, _∙_, ap}
 use mathlib.Core.List.{List, [], _∷_}
 use Prim.Native.Nat.{ℕ, suc, _+_, _-_, _*_, _≤_}

@@ -1,9 +1,9 @@
 -- A pair is in the list exactly if 01's or 02's sentence holds of it, and the list rises, so nothing is in it twice.
 use mathlib.Core.Path.{_≡_, refl, sym, _∙_, ap, ap₂, subst}
-use mathlib.Core.Bool.{Bool, true, false, true≢false}
+use mathlib.Core.Bool.{Bool, true, false}
 use mathlib.Core.Logic.{_↔_, _≢_, _⊎_, inl, inr}
 use mathlib.Core.List.{List, [], _∷_, _++_, append-nil, List·Memᴰ, List·Memᴰ·append-cases, Memᴰ·append-left, Memᴰ·append-right}
-use Prim.Native.Nat.{ℕ, zero, suc, _+_, _-_, _≤_, _<_, min}
+use Prim.Native.Nat.{ℕ, zero, suc, _+_, _-_, _≤_, _<_}
 use native.Mathlib.Decide.{decLt}
 use native.Mathlib.Omega.{arith}
 use lib.Dec.{eqb, ltb}
@@ -13,12 +13,12 @@ use Rattle.lists.specs.All.{All}
 use Rattle.lists.proofs.Every.{all-map, all-member}
 use Rattle.lists.proofs.Sameness.{same-refl, same-eq}
 use Rattle.words.specs.Word.{Word}
-use Rattle.words.specs.Place.{Stands, standsAt}
+use Rattle.words.specs.Place.{Stands}
 use Rattle.words.proofs.Standing.{stands-iff}
 use Rattle.overlaps.specs.Pairs.{Pair, Overlapping, Included, Names, IsOverlap, IsInclusion, IsPair, Earlier, Before, overlap-first, by-shared, by-place, Rising}
 use Rattle.overlaps.specs.Overlaps.{Part, shares, sharing, placesIn, placing, fromFirst, overlaps}
 use Rattle.overlaps.proofs.RisingLists.{rising-append, all-before, rising-at, rising-map}
-use Rattle.overlaps.proofs.PartPairs.{Numbering, GivenBy, FromFirst, first-sound, first-complete, first-rising}
+use Rattle.overlaps.proofs.PartPairs.{GivenBy, FromFirst, first-sound, first-complete, first-rising}
 
 shares-yes : (u v : Word) (n : ℕ) → drop (length u - n) u ≡ take n v → shares u v n ≡ true
 unfolding shares

@@ -103,11 +103,12 @@ unfoldable pub restOf : Family → Pair → Word
 unfolding lead
 restOf G o = drop (o .shared) (lead (G (o .second)))
 
--- What is left of the second leading word in the overlap word, and what of the first is right of it. (Of an overlap nothing is.)
+-- What stands before the second leading word in the overlap word.
 unfoldable pub frontOf : Family → Pair → Word
 unfolding lead
 frontOf G o = take (o .at) (lead (G (o .first)))
 
+-- What of the first leading word stands behind the second. (Of an overlap nothing does.)
 unfoldable pub backOf : Family → Pair → Word
 unfolding lead
 backOf G o = drop (o .at + length (lead (G (o .second)))) (lead (G (o .first)))

@@ -4,14 +4,12 @@ use mathlib.Core.Bool.{Bool, true, false}
 use mathlib.Core.List.{List, [], _∷_}
 use Prim.Native.Nat.{ℕ, zero, suc, _+_, _*_, _/_, _%_, _≤_, _<_}
 use native.Mathlib.Decide.{ℕ-discrete}
-use native.Mathlib.Numerals.{add-one}
 use native.Mathlib.Omega.{arith}
 use lib.Dec.{eqb}
 use lib.ListN.{length, getD, set, drop, length-set}
 use lib.Seq.{getD-set-same, getD-set-other, drop-drop}
 use borrow.Author.Tests.{eq-eqb, ne-eqb}
 use Rattle.words.specs.Word.{Word}
-use Rattle.overlaps.specs.Pairs.{Pair}
 use Rattle.overlaps.specs.Overlaps.{overlaps}
 use Rattle.overlapsearch.specs.declared.PairAt.{PairAt}
 use Rattle.overlapsearch.specs.Position.{pairOf, behind, pairsAt, seenPairs, FoundAt}

@@ -11,12 +11,12 @@ use borrow.Author.Tests.{lt-ltb, le-ltb}
 use Rattle.words.specs.declared.Found.the-variants.{At, Nowhere}
 use Rattle.words.specs.Word.{Word}
 use Rattle.overlaps.specs.Pairs.{Pair}
-use Rattle.overlaps.specs.Overlaps.{Part, sharing, placing, pairsFrom, pairsOf, withFirst, fromFirst, overlaps}
+use Rattle.overlaps.specs.Overlaps.{Part, placing, pairsFrom, pairsOf, withFirst, fromFirst, overlaps}
 use Rattle.overlapsearch.specs.declared.Cursor.{Cursor}
 use Rattle.overlapsearch.specs.Position.{partOf, nextIn, nextAt, rowsAt, partAt, partsBehind, pairsAt, origin, turn, rowAfter}
-use Rattle.overlapsearch.proofs.Passing.{Found-at, told-at, told-nowhere}
+use Rattle.overlapsearch.proofs.Passing.{told-at, told-nowhere}
 
--- No word gives nothing.
+-- An empty list of words gives no pair.
 none-first : (X : Part) (vs : List Word) → length vs ≤ 0 → [] ≡ fromFirst X vs vs 1
 unfolding fromFirst
 none-first X [] h = refl

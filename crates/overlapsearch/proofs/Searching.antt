@@ -8,7 +8,6 @@ use native.Mathlib.Omega.{arith}
 use lib.ListN.{length, getD}
 use Rattle.words.specs.declared.Found.the-variants.{At, Nowhere}
 use Rattle.words.specs.Word.{Word}
-use Rattle.words.specs.Place.{standsAt}
 use Rattle.words.specs.Laid.{laidWord, laidWords, WordInside, Laid}
 use Rattle.words.proofs.LaidWords.{laid-length, laid-at, word-inside, laid-word-length}
 use Rattle.words.proofs.Standing.{stands-iff}
@@ -192,6 +191,15 @@ module _ (starts lens bytes : List ℕ) (n : ℕ) (c₀ : Cursor) where
         let k = laid-length starts lens bytes n in
         rw (seenInPart, p) (sym (part-end ws c (omega arith)) ∙ h .same)
 
+-- A place of a part, as the code has it.
+pub of-part : (ws : List Word) (lens : List ℕ) (n : ℕ) (f : PairAt) (c : Cursor) (b : Bool) → c .inside ≡ b
+    → (seenInPart ws f ≡ partAt ws (record { inside = b; first = c .first; second = c .second; number = c .number })) × (f .present ≡ true → FoundAt lens n f × (f .inside ≡ b))
+    → (seenInPart ws f ≡ partAt ws c) × (f .present ≡ true → FoundAt lens n f × (f .inside ≡ c .inside))
+of-part ws lens n f c b q (e, h) = (
+  e ∙ ap (λ (t : Bool). partAt ws (record { inside = t; first = c .first; second = c .second; number = c .number })) (sym q),
+  λ p. (h p .0, h p .1 ∙ sym q),
+)
+
 -- From a part to the list.
 module _ (ws : List Word) (c : Cursor) where
   -- a pair is found: behind what is left of the part come the parts behind it
@@ -222,9 +230,10 @@ module _ (ws : List Word) (c : Cursor) where
         ∙ sym (left-overlaps ws c q)
 
 -- Found in the inclusions, or nothing.
-pub seen-inclusions : (ws : List Word) (g : PairAt) → (g .present ≡ true → g .inside ≡ true) → seenInPart ws g ≡ partAt ws turn → seenPairs ws g ≡ pairsAt ws turn
-seen-inclusions ws g t d = go (g .present) refl
+pub seen-inclusions : (ws : List Word) (c : Cursor) (g : PairAt) → c .inside ≡ true → (g .present ≡ true → g .inside ≡ c .inside) → seenInPart ws g ≡ partAt ws c
+    → seenPairs ws g ≡ pairsAt ws c
+seen-inclusions ws c g q t d = go (g .present) refl
   where
-    go : (b : Bool) → g .present ≡ b → seenPairs ws g ≡ pairsAt ws turn
-    go true p = seen-here ws turn g p (t p) d
-    go false p = seen-nothing ws turn g p d refl
+    go : (b : Bool) → g .present ≡ b → seenPairs ws g ≡ pairsAt ws c
+    go true p = seen-here ws c g p (t p) d
+    go false p = seen-nothing ws c g p d q

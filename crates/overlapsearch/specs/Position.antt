@@ -67,10 +67,11 @@ unfoldable pub pairsAt : List Word → Cursor → List Pair
 unfolding partAt partsBehind
 pairsAt ws c = partAt ws c ++ partsBehind (c .inside) ws
 
--- The first place of all, and the first of the inclusions.
+-- The first place of all.
 abbrev pub origin : Cursor
 origin = record { inside = false; first = 0; second = 0; number = 1 }
 
+-- The first place of the inclusions.
 abbrev pub turn : Cursor
 turn = record { inside = true; first = 0; second = 0; number = 0 }
 

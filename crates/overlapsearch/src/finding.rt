@@ -6,8 +6,8 @@ use crate::inside::next_inside;
 use crate::shared::next_shared;
 ghost use mathlib.Core.Path.{_≡_};
 ghost use mathlib.Core.Bool.{true, false};
-ghost use Prim.Native.Nat.{suc, _+_, _≤_, _<_};
-ghost use lib.ListN.{length, getD};
+ghost use Prim.Native.Nat.{_+_, _≤_, _<_};
+ghost use lib.ListN.{getD};
 ghost use Rattle.words.specs.Laid.{laidWord, laidWords, WordInside, Laid};
 ghost use Rattle.overlapsearch.specs.Position.{partOf, nextAt, partAt, pairsAt, rowAfter, pairFound, seenInPart, seenPairs, Placed, AtMost24, FoundAt};
 
@@ -44,21 +44,10 @@ fn next_row(c: Cursor, n: usize) -> Cursor
     }
 }
 
-// The next number of a place's part that its two words give.
-fn next_number(u: &[u8], v: &[u8], c: Cursor) -> words::Found
-    requires { ⌜ length (now u) ≤ 24 ⌝ }
-    ensures { λ r. ⌜ r ≡ nextAt (now (u .entry)) (now (v .entry)) c ⌝ }
-{
-    if c.inside {
-        return next_inside(u, v, c.first, c.second, c.number);
-    }
-    next_shared(u, v, c.number)
-}
-
-// The same, for the words as they lie.
-fn number_at(starts: &[usize], lens: &[usize], bytes: &[u8], c: Cursor) -> words::Found
+// The next number of letters that the two words of a place share.
+fn shared_at(starts: &[usize], lens: &[usize], bytes: &[u8], c: Cursor) -> words::Found
     requires { ⌜ WordInside (now starts) (now lens) (now bytes) (c .first) × WordInside (now starts) (now lens) (now bytes) (c .second) ⌝ }
-    requires { ⌜ getD (now lens) (c .first) 0 ≤ 24 ⌝ }
+    requires { ⌜ (getD (now lens) (c .first) 0 ≤ 24) × (c .inside ≡ false) ⌝ }
     ensures { λ r. ⌜ r ≡ nextAt (laidWord (now (starts .entry)) (now (lens .entry)) (now (bytes .entry)) (c .first)) (laidWord (now (starts .entry)) (now (lens .entry)) (now (bytes .entry)) (c .second)) c ⌝ }
 {
     let first = c.first;
@@ -67,7 +56,22 @@ fn number_at(starts: &[usize], lens: &[usize], bytes: &[u8], c: Cursor) -> words
     let b = starts[second];
     let e = a + lens[first];
     let f = b + lens[second];
-    next_number(&bytes[a..e], &bytes[b..f], c)
+    next_shared(&bytes[a..e], &bytes[b..f], c.number)
+}
+
+// The next place where the second word of a place stands in the first.
+fn inside_at(starts: &[usize], lens: &[usize], bytes: &[u8], c: Cursor) -> words::Found
+    requires { ⌜ WordInside (now starts) (now lens) (now bytes) (c .first) × WordInside (now starts) (now lens) (now bytes) (c .second) ⌝ }
+    requires { ⌜ (getD (now lens) (c .first) 0 ≤ 24) × (c .inside ≡ true) ⌝ }
+    ensures { λ r. ⌜ r ≡ nextAt (laidWord (now (starts .entry)) (now (lens .entry)) (now (bytes .entry)) (c .first)) (laidWord (now (starts .entry)) (now (lens .entry)) (now (bytes .entry)) (c .second)) c ⌝ }
+{
+    let first = c.first;
+    let second = c.second;
+    let a = starts[first];
+    let b = starts[second];
+    let e = a + lens[first];
+    let f = b + lens[second];
+    next_inside(&bytes[a..e], &bytes[b..f], first, second, c.number)
 }
 
 // The pair of a place's two words, of a and b letters, and a number that they give.
@@ -95,16 +99,35 @@ fn pair_found(c: Cursor, a: usize, b: usize, number: usize) -> PairAt
     }
 }
 
-// The first pair from a place on, in the place's part.
-fn next_in_part(starts: &[usize], lens: &[usize], bytes: &[u8], n: usize, from: Cursor) -> PairAt
+// No pair.
+fn no_pair() -> PairAt
+    ensures { λ r. ⌜ r .present ≡ false ⌝ }
+{
+    PairAt {
+        first: 0,
+        present: false,
+        second: 0,
+        inside: true,
+        shared: 0,
+        at: 0,
+    }
+}
+
+// The first overlap from a place on. The two parts have a loop each: what a part does not need is then not looked at in its loop.
+fn next_overlap(starts: &[usize], lens: &[usize], bytes: &[u8], n: usize, from: Cursor) -> PairAt
     requires { ⌜ Laid (now starts) (now lens) (now bytes) n ⌝ }
-    requires { ⌜ (n ≤ 64) × AtMost24 (now lens) n × Placed n from ⌝ }
+    requires { ⌜ (n ≤ 64) × AtMost24 (now lens) n × Placed n from × (from .inside ≡ false) ⌝ }
     ensures { λ r. ⌜ seenInPart (laidWords (now (starts .entry)) (now (lens .entry)) (now (bytes .entry)) n) r ≡ partAt (laidWords (now (starts .entry)) (now (lens .entry)) (now (bytes .entry)) n) from ⌝ }
     ensures { λ r. ⌜ (r .present ≡ true → FoundAt (now (lens .entry)) n r × (r .inside ≡ from .inside)) ⌝ }
 {
-    let mut c = from;
+    let mut c = Cursor {
+        inside: false,
+        first: from.first,
+        second: from.second,
+        number: from.number,
+    };
     while c.first < n {
-        let found = number_at(starts, lens, bytes, c);
+        let found = shared_at(starts, lens, bytes, c);
         if let words::Found::At(s) = found {
             let first = c.first;
             let second = c.second;
@@ -112,14 +135,32 @@ fn next_in_part(starts: &[usize], lens: &[usize], bytes: &[u8], n: usize, from: 
         }
         c = next_row(c, n);
     }
-    PairAt {
-        present: false,
+    no_pair()
+}
+
+// The first inclusion from a place on.
+fn next_inclusion(starts: &[usize], lens: &[usize], bytes: &[u8], n: usize, from: Cursor) -> PairAt
+    requires { ⌜ Laid (now starts) (now lens) (now bytes) n ⌝ }
+    requires { ⌜ (n ≤ 64) × AtMost24 (now lens) n × Placed n from × (from .inside ≡ true) ⌝ }
+    ensures { λ r. ⌜ seenInPart (laidWords (now (starts .entry)) (now (lens .entry)) (now (bytes .entry)) n) r ≡ partAt (laidWords (now (starts .entry)) (now (lens .entry)) (now (bytes .entry)) n) from ⌝ }
+    ensures { λ r. ⌜ (r .present ≡ true → FoundAt (now (lens .entry)) n r × (r .inside ≡ from .inside)) ⌝ }
+{
+    let mut c = Cursor {
         inside: true,
-        first: 0,
-        second: 0,
-        shared: 0,
-        at: 0,
+        first: from.first,
+        second: from.second,
+        number: from.number,
+    };
+    while c.first < n {
+        let found = inside_at(starts, lens, bytes, c);
+        if let words::Found::At(s) = found {
+            let first = c.first;
+            let second = c.second;
+            return pair_found(c, lens[first], lens[second], s);
+        }
+        c = next_row(c, n);
     }
+    no_pair()
 }
 
 // The first pair from a place on: behind the last overlap comes the first inclusion.
@@ -129,11 +170,11 @@ pub fn next_pair(starts: &[usize], lens: &[usize], bytes: &[u8], n: usize, from:
     ensures { λ r. ⌜ seenPairs (laidWords (now (starts .entry)) (now (lens .entry)) (now (bytes .entry)) n) r ≡ pairsAt (laidWords (now (starts .entry)) (now (lens .entry)) (now (bytes .entry)) n) from ⌝ }
     ensures { λ r. ⌜ (r .present ≡ true → FoundAt (now (lens .entry)) n r) ⌝ }
 {
-    let f = next_in_part(starts, lens, bytes, n, from);
-    if f.present {
-        return f;
-    }
     if from.inside {
+        return next_inclusion(starts, lens, bytes, n, from);
+    }
+    let f = next_overlap(starts, lens, bytes, n, from);
+    if f.present {
         return f;
     }
     let turn = Cursor {
@@ -142,5 +183,5 @@ pub fn next_pair(starts: &[usize], lens: &[usize], bytes: &[u8], n: usize, from:
         second: 0,
         number: 0,
     };
-    next_in_part(starts, lens, bytes, n, turn)
+    next_inclusion(starts, lens, bytes, n, turn)
 }

@@ -1,7 +1,6 @@
 // Where a leading word stands inside another.
 
 ghost use mathlib.Core.Path.{_≡_};
-ghost use mathlib.Core.Bool.{true};
 ghost use Prim.Native.Nat.{suc, _≤_};
 ghost use lib.ListN.{length};
 ghost use Rattle.overlaps.specs.Overlaps.{placesIn, placing};

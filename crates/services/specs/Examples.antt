@@ -263,7 +263,7 @@ packageUntrimmed = text (
     ∷ []
     )
 
--- Two constants and a word between them, and a word twice, without sums: listing judges none.
+-- Two constants and a word between them, without sums: listing judges none.
 unfoldable pub packageConstants : List ℕ
 unfolding text
 packageConstants = text (
@@ -277,6 +277,7 @@ packageConstants = text (
     ∷ []
     )
 
+-- A word twice, without sums.
 unfoldable pub packageTwice : List ℕ
 unfolding text
 packageTwice = text (

@@ -1,12 +1,11 @@
 -- The factors of a pair, cut from its leading words, and the overlap word that they make.
 use mathlib.Core.Path.{_≡_, refl, sym, ap, _∙_}
 use mathlib.Core.List.{List, [], _∷_, map, _++_}
-use Prim.Native.Nat.{ℕ, suc, _+_, _-_, _*_, _%_, _≤_, _<_, min}
-use native.Mathlib.Decide.{decLt}
+use Prim.Native.Nat.{ℕ, suc, _+_, _-_, _*_, _%_, _≤_}
 use native.Mathlib.Numerals.{add-one}
 use native.Mathlib.Omega.{arith}
 use lib.ListN.{length, getD, take, drop, replicate, length-append, drop-of-length-le}
-use lib.Seq.{drop-cons, drop-length}
+use lib.Seq.{drop-cons}
 use Rattle.lists.proofs.Maps.{map-take, map-drop}
 use Rattle.lists.proofs.Parts.{part-length}
 use Rattle.words.specs.Word.{Word, around}
@@ -30,17 +29,6 @@ pub two-entries : (t : List ℕ) (at : ℕ) → at + 2 ≤ length t → take 2 (
 two-entries t at h =
     ap (take 2) (drop-cons t at 0 (omega arith)) ∙ ap (λ (u : List ℕ). getD t at 0 ∷ take 1 u) (drop-cons t (suc at) 0 (omega arith))
     ∙ ap (λ (k : ℕ). getD t at 0 ∷ getD t k 0 ∷ []) (sym (add-one at))
-
--- Letters behind the end of a word are none.
-drop-least : (k : ℕ) (w : Word) → drop (min k (length w)) w ≡ drop k w
-drop-least k w = go (decLt k (length w))
-  where
-    go : Dec (k < length w) → drop (min k (length w)) w ≡ drop k w
-    go (yes l) = let e : min k (length w) ≡ k = omega arith in rw e
-    go (no l) =
-        let e : min k (length w) ≡ length w = omega arith in
-        let m : length w ≤ k = omega arith in
-        rw (e, drop-length w) (sym (drop-of-length-le w m))
 
 module _ {t : List ℕ} (T : Tabled t) (g : ℕ) where
   -- The leading word of basis polynomial g, copied to six blocks.
@@ -89,12 +77,9 @@ module _ {t : List ℕ} (T : Tabled t) (g : ℕ) where
         let m = P .letters in
         part k (omega arith) (take k (leadIn t g)) packs (ap (map (letterIn t)) q ∙ map-take (letterIn t) k (unpacked n word) ∙ ap (take k) (P .word))
 
-    pub back-short : (k i : ℕ) → i ≡ min k n → Packs (n - i) bs → unpacked (n - i) bs ≡ drop i (unpacked n word) → ShortWord t (drop k (leadIn t g)) (257 * (n - i)) bs
-    back-short k i e packs q =
-        part (n - i) (omega arith) (drop k (leadIn t g)) packs
-        (ap (map (letterIn t)) q ∙ map-drop (letterIn t) i (unpacked n word) ∙ ap (drop i) (P .word)
-        ∙ ap (λ (j : ℕ). drop j (leadIn t g)) (e ∙ ap (min k) (sym (P .letters)))
-        ∙ drop-least k (leadIn t g))
+    pub back-short : (k : ℕ) → k ≤ n → Packs (n - k) bs → unpacked (n - k) bs ≡ drop k (unpacked n word) → ShortWord t (drop k (leadIn t g)) (257 * (n - k)) bs
+    back-short k l packs q =
+        part (n - k) (omega arith) (drop k (leadIn t g)) packs (ap (map (letterIn t)) q ∙ map-drop (letterIn t) k (unpacked n word) ∙ ap (drop k) (P .word))
 
 -- What is cut from the leading words of a pair are its factors.
 module _ (t : List ℕ) (f : PairAt) where
@@ -105,6 +90,13 @@ module _ (t : List ℕ) (f : PairAt) where
   pub back-cut : (n : ℕ) → n ≡ length (leadIn t (suc (f .second))) → drop (f .at + n) (leadIn t (suc (f .first))) ≡ backOf (family (basisIn t)) (pairOf f)
   unfolding backOf
   back-cut n e = ap (λ (k : ℕ). drop (f .at + k) (leadIn t (suc (f .first)))) e
+
+  -- where the second leading word reaches to the end of the first or beyond it, nothing is right of it
+  pub back-none : (n m : ℕ) → n ≡ length (leadIn t (suc (f .second))) → length (leadIn t (suc (f .first))) ≡ m → m ≤ f .at + n
+      → [] ≡ backOf (family (basisIn t)) (pairOf f)
+  back-none n m e d l =
+      let k : length (leadIn t (suc (f .first))) ≤ f .at + n = omega arith in
+      sym (drop-of-length-le (leadIn t (suc (f .first))) k) ∙ back-cut n e
 
   pub rest-cut : drop (f .shared) (leadIn t (suc (f .second))) ≡ restOf (family (basisIn t)) (pairOf f)
   unfolding restOf

@@ -20,10 +20,14 @@ module _ {t heads headlens bytes : List ℕ} (h : HeadsIn t heads headlens bytes
   lead-laid g l =
       sym (lead-of (basisIn t) (suc g)) ∙ ap (λ (ws : List Word). getD ws g []) (sym (h .leading)) ∙ laid-at heads headlens bytes (basisCountIn t) g l
 
-  -- so the second leading word of a pair begins in the first, or at its end
+  lead-length : (g : ℕ) → g < basisCountIn t → length (leadIn t (suc g)) ≡ getD headlens g 0
+  lead-length g l = ap length (lead-laid g l) ∙ laid-word-length heads headlens bytes (basisCountIn t) (h .laid) g l
+
+  -- so the second leading word of a pair begins in the first, or at its end, and has the shared letters
   pub lapping : (f : PairAt) → FoundAt headlens (basisCountIn t) f → Lapping t f
   lapping f v =
-      let l = v .first in
       let w = v .within-first in
-      let e = ap length (lead-laid (f .first) l) ∙ laid-word-length heads headlens bytes (basisCountIn t) (h .laid) (f .first) l in
-      record { first = l; second = v .second; begins = omega arith }
+      let x = v .within-second in
+      let e = lead-length (f .first) (v .first) in
+      let d = lead-length (f .second) (v .second) in
+      record { first = v .first; second = v .second; begins = omega arith; shares = omega arith }

@@ -16,8 +16,9 @@ pub record LeadPacked (t : List ℕ) (g n : ℕ) (bs : List ℕ) : Type 0 where
   pub packs : Packs n bs
   pub word : map (letterIn t) (unpacked n bs) ≡ leadIn t g
 
--- The two polynomials of a pair are of the basis, and the second leading word begins in the first, or at its end.
+-- The two polynomials of a pair are of the basis, the second leading word begins in the first, or at its end, and has the letters that are shared.
 pub record Lapping (t : List ℕ) (f : PairAt) : Type 0 where
   pub first : f .first < basisCountIn t
   pub second : f .second < basisCountIn t
   pub begins : f .at ≤ length (leadIn t (suc (f .first)))
+  pub shares : f .shared ≤ length (leadIn t (suc (f .second)))

@@ -3,7 +3,6 @@
 
 use crate::Cuts;
 use itemadding::building::build;
-use lists::numbers::lesser;
 use overlapsearch::PairAt;
 use packing::part::left_part;
 use packing::part::right_part;
@@ -13,8 +12,9 @@ use table::numbers::gens_in;
 use table::numbers::size_in;
 use table::numbers::word_at;
 ghost use mathlib.Core.Path.{_≡_};
-ghost use Prim.Native.Nat.{suc, _≤_, _<_};
-ghost use lib.ListN.{length, take, drop};
+ghost use mathlib.Core.List.{[]};
+ghost use Prim.Native.Nat.{suc, _-_, _*_, _≤_, _<_};
+ghost use lib.ListN.{length};
 ghost use Rattle.algebra.specs.Ideal.{family};
 ghost use Rattle.overlaps.specs.Overlaps.{overlapWord, restOf, frontOf, backOf};
 ghost use Rattle.overlapsearch.specs.Position.{pairOf};
@@ -25,15 +25,6 @@ ghost use Rattle.table.specs.Words.{wordOf, Built};
 ghost use Rattle.tablesums.specs.Factors.{LeadPacked, Lapping};
 ghost use Rattle.tablesums.specs.Leading.{leadIn};
 ghost use Rattle.tablesums.specs.ShortWords.{ShortWord};
-
-// How many letters the leading word of basis polynomial g, counted from 0, has.
-fn lead_len(t: &Table, g: usize) -> usize
-    requires { ⌜ Tabled (now t) × (g < basisCountIn (now t)) ⌝ }
-    ensures { λ r. ⌜ (r ≡ length (leadIn (now (t .entry)) (suc g))) × (r ≤ 24) ⌝ }
-{
-    let i = first_in(t, gens_in(t) + 1 + g);
-    size_in(t, i) % 256
-}
 
 // The leading word of basis polynomial g, counted from 0, in six blocks, of which four are zeros. The answer is how many letters it has.
 fn lead_word(t: &Table, g: usize, dst: &mut [u64; 6]) -> usize
@@ -51,30 +42,39 @@ fn lead_word(t: &Table, g: usize, dst: &mut [u64; 6]) -> usize
     size_in(t, i) % 256
 }
 
-// The first k letters of that leading word. Each letter weighs 1, so that a size, which is the answer, is 257 × letters.
-fn lead_front(t: &Table, g: usize, k: usize, dst: &mut [u64; 6]) -> usize
-    requires { ⌜ Tabled (now t) × (g < basisCountIn (now t)) × (k ≤ length (leadIn (now t) (suc g))) × (length (now dst) ≡ 6) ⌝ }
-    ensures { λ r. ⌜ ShortWord (now (t .entry)) (take k (leadIn (now (t .entry)) (suc g))) r (now (dst .exit)) ⌝ }
+// Cuts the second leading word of a pair behind the shared letters. The answer is how many letters that word has. Each letter weighs 1, so that the size of
+// a word is 257 × letters.
+fn cut_second(t: &Table, f: PairAt, rest: &mut [u64; 6]) -> usize
+    requires { ⌜ Tabled (now t) × Lapping (now t) f × (length (now rest) ≡ 6) ⌝ }
+    ensures { λ r. ⌜ (r ≡ length (leadIn (now (t .entry)) (suc (f .second)))) × (r ≤ 24) ⌝ }
+    ensures { λ r. ⌜ ShortWord (now (t .entry)) (restOf (family (basisIn (now (t .entry)))) (pairOf f)) (257 * (r - f .shared)) (now (rest .exit)) ⌝ }
 {
     let mut word = [0u64; 6];
-    let m = lead_word(t, g, &mut word);
-    left_part(dst, &word, m, k);
-    257 * k
+    let n = lead_word(t, f.second, &mut word);
+    right_part(rest, &word, n, f.shared);
+    n
 }
 
-// Its letters behind the first k. The answer is their size.
-fn lead_back(t: &Table, g: usize, k: usize, dst: &mut [u64; 6]) -> usize
-    requires { ⌜ Tabled (now t) × (g < basisCountIn (now t)) × (length (now dst) ≡ 6) ⌝ }
-    ensures { λ r. ⌜ ShortWord (now (t .entry)) (drop k (leadIn (now (t .entry)) (suc g))) r (now (dst .exit)) ⌝ }
+// Cuts the first leading word of a pair left and right of the second, which has n letters. The answer is the size of what is right of it. Before, back
+// holds the empty word: of an overlap nothing is right of the second, and nothing is cut.
+fn cut_first(t: &Table, f: PairAt, n: usize, front: &mut [u64; 6], back: &mut [u64; 6]) -> usize
+    requires { ⌜ Tabled (now t) × Lapping (now t) f × (n ≡ length (leadIn (now t) (suc (f .second)))) × (n ≤ 24) ⌝ }
+    requires { ⌜ (length (now front) ≡ 6) × ShortWord (now t) [] 0 (now back) ⌝ }
+    ensures { λ _. ⌜ ShortWord (now (t .entry)) (frontOf (family (basisIn (now (t .entry)))) (pairOf f)) (257 * f .at) (now (front .exit)) ⌝ }
+    ensures { λ r. ⌜ ShortWord (now (t .entry)) (backOf (family (basisIn (now (t .entry)))) (pairOf f)) r (now (back .exit)) ⌝ }
 {
     let mut word = [0u64; 6];
-    let m = lead_word(t, g, &mut word);
-    let i = lesser(k, m);
-    right_part(dst, &word, m, i);
-    257 * (m - i)
+    let m = lead_word(t, f.first, &mut word);
+    left_part(front, &word, m, f.at);
+    let end = f.at + n;
+    if m <= end {
+        return 0;
+    }
+    right_part(back, &word, m, end);
+    257 * (m - end)
 }
 
-// Cuts the three factors of a pair from its leading words.
+// Cuts the three factors of a pair from its leading words. Before, back holds the empty word.
 pub fn cut_factors(
     t: &Table,
     f: PairAt,
@@ -82,19 +82,17 @@ pub fn cut_factors(
     back: &mut [u64; 6],
     rest: &mut [u64; 6],
 ) -> Cuts
-    requires { ⌜ Tabled (now t) × Lapping (now t) f × (length (now front) ≡ 6) × (length (now back) ≡ 6) × (length (now rest) ≡ 6) ⌝ }
+    requires { ⌜ Tabled (now t) × Lapping (now t) f × (length (now front) ≡ 6) × (length (now rest) ≡ 6) × ShortWord (now t) [] 0 (now back) ⌝ }
     ensures { λ r. ⌜ ShortWord (now (t .entry)) (frontOf (family (basisIn (now (t .entry)))) (pairOf f)) (r .front) (now (front .exit)) ⌝ }
     ensures { λ r. ⌜ ShortWord (now (t .entry)) (backOf (family (basisIn (now (t .entry)))) (pairOf f)) (r .back) (now (back .exit)) ⌝ }
     ensures { λ r. ⌜ ShortWord (now (t .entry)) (restOf (family (basisIn (now (t .entry)))) (pairOf f)) (r .rest) (now (rest .exit)) ⌝ }
 {
-    let n = lead_len(t, f.second);
-    let a = lead_front(t, f.first, f.at, front);
-    let b = lead_back(t, f.first, f.at + n, back);
-    let c = lead_back(t, f.second, f.shared, rest);
+    let n = cut_second(t, f, rest);
+    let b = cut_first(t, f, n, front, back);
     Cuts {
-        front: a,
+        front: 257 * f.at,
         back: b,
-        rest: c,
+        rest: 257 * (n - f.shared),
     }
 }
 

@@ -1,6 +1,6 @@
 -- `judge_basis` judges refusal 8. The loop's invariant: what is left to judge gives the verdict of refusal 8, and the leading words before are laid.
 use borrow.Author.Needs.{needs}
-use mathlib.Core.Path.{_≡_, sym, _∙_}
+use mathlib.Core.Path.{_≡_, _∙_}
 use Prim.Native.Nat.{_+_, _-_, _≤_}
 use native.Mathlib.Omega.{arith}
 use lib.ListN.{length, getD}

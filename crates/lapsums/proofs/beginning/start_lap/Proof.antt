@@ -1,5 +1,6 @@
 -- `start_lap` cuts the three factors, builds the overlap word and starts with the difference.
 use mathlib.Core.Path.{refl}
+use Rattle.tablesums.proofs.Fitting.{empty-short}
 use Rattle.lapsums.proofs.beginning.start_lap.Statement.{statement}
 use Rattle.lapsums.proofs.beginning.start_lap.Tie as tie
 
@@ -16,7 +17,7 @@ word d = d .before .before .before .before .before .before .before .before .befo
 cut-factors-requires : tie.Need-cut-factors-requires
 cut-factors-requires c κs =
     let s = c .before .before .before in
-    (s .pre .0 .0, s .pre .0 .1, refl, refl, refl)
+    (s .pre .0 .0, s .pre .0 .1, refl, refl, empty-short (s .args .t .now))
 
 overlap-word-requires : tie.Need-overlap-word-requires
 overlap-word-requires c κs =

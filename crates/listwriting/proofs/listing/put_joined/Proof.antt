@@ -1,5 +1,4 @@
 -- `put_joined`: the two parts of the word, or `-` where both are empty.
-use mathlib.Core.Path.{sym}
 use native.Mathlib.Omega.{arith}
 use Rattle.listwriting.proofs.LineStores.{written-empty, joined-length, joined-stored}
 use borrow.Author.Needs.{needs}

@@ -1,6 +1,6 @@
 -- `write_lines` writes the line of each pair. The loop's invariant: storing the lines that are left gives what storing all gives.
 use mathlib.Core.Path.{subst}
-use Prim.Native.Nat.{ℕ, _-_, _<_, _≤_}
+use Prim.Native.Nat.{_-_, _<_}
 use native.Mathlib.Omega.{arith}
 use lib.ListN.{length}
 use Rattle.words.specs.Laid.{laidWords}

@@ -1,7 +1,7 @@
 -- `keep_pair` stores the number where there is room.
-use mathlib.Core.Path.{sym, ap, _∙_}
+use mathlib.Core.Path.{sym, ap}
 use native.Mathlib.Omega.{arith}
-use lib.ListN.{length, set}
+use lib.ListN.{set}
 use Rattle.overlapsearch.proofs.KeptPairs.{packed-few, set-past}
 use borrow.Author.Needs.{needs}
 use Rattle.overlapsearch.proofs.keeping.keep_pair.Statement.{statement}

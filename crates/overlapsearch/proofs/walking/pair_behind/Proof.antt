@@ -1,5 +1,5 @@
 -- `pair_behind` finds the pair behind one.
-use mathlib.Core.Path.{_≡_, ap, sym, subst, _∙_}
+use mathlib.Core.Path.{ap, sym, subst, _∙_}
 use Rattle.words.specs.Laid.{laidWords}
 use Rattle.overlapsearch.specs.Position.{pairsAt, Placed}
 use Rattle.overlapsearch.proofs.SeenPairs.{place-few, placed-behind}
