@@ -20,7 +20,8 @@ extern "C" {
 /* A package's list has its pairs: first the overlaps of two leading words of the basis, then the inclusions, where the
  * leading word of one polynomial stands inside that of another or equals it. `overlap` in a name below means a pair. */
 
-/* Refusals, with the meaning of place. 9 is not used: it was given for a leading word inside another, and is kept free. */
+/* Refusals, with the meaning of place. 9 is not used: it was given for a leading word inside another, and no refusal is
+ * to have it again. */
 enum {
     VG_ANSWERED = 0,
     VG_TOO_LONG = 1,       /* the package has over 65,536 bytes; 0 */

@@ -112,7 +112,7 @@ module _ {bytes cs os ls fs : List ℕ} {h : Head} {m at n : ℕ} (r : PackageRe
         go (refusal i j) z q = judged (refusal i j) (sym verdict-is ∙ z) ∙ ap₂ refused (sym (ap numberOf q)) (sym (ap placeOf q))
         go fine z q = absurd (subst Rejects q tt)
 
-    -- What the check accepts is accepted, with the overlap count.
+    -- What the check accepts is accepted, with the count of its overlaps and inclusions.
     pub accepted-taken : (count c : ℕ) → Accepted c ≡ answerOf verdict count → TableAccepted bytes t × (c ≡ count)
     unfolding answerOf placeOf Rejects
     accepted-taken count c q = go verdict refl q

@@ -1,4 +1,4 @@
-// check_package: whether a package is accepted, and its overlap count.
+// check_package: whether a package is accepted, and how many overlaps and inclusions it has.
 
 use accepting::Accepting;
 use accepting::accept::accept;

@@ -1,4 +1,4 @@
--- The check's answer by the answer on the overlaps and by what 15 says.
+-- The check's answer by the answer on the pairs and by what 15 says.
 use mathlib.Core.Path.{_≡_, sym, ap, _∙_}
 use mathlib.Core.Bool.{Bool, false}
 use mathlib.Core.List.{List, []}
@@ -39,14 +39,14 @@ module _ (K : Operations) (O : Order) (ps : List Poly) (ss : List SumLine) where
   pub above-answer : (k : ℕ) → itemsJudged total ss ≡ refusal 15 k → Rejected 15 k ≡ answerOf row total
   above-answer k e = refused-answer row 15 k total (row-none K O ps ss ∙ then-refused _ _ 15 k e)
 
-  -- Where 15 is none, the overlaps decide.
+  -- Where 15 is none, the pairs decide.
   module _ (r : LapsAnswer) (h : lapsVerdictOf r ≡ overlapsJudged K O (family ps) ss (overlaps (leads ps)) 1) where
     pub stopped-answer : itemsJudged total ss ≡ fine → (n k : ℕ) → r ≡ Stopped n k → Rejected n k ≡ answerOf row total
     unfolding lapsVerdictOf
     stopped-answer e n k q = refused-answer row n k total (row-none K O ps ss ∙ then-fine _ _ e ∙ sym h ∙ rw q)
 
     module _ (b : LapsBehind total ss r) (count : ℕ) (left : Bool) (q : r ≡ Through count left) where
-      -- the overlaps were counted, and 15 is none where no line is left over
+      -- the pairs were counted, and 15 is none where no line is left over
       pub through-count : count ≡ total
       unfolding LapsBehind
       through-count = (rw q at b) .0

@@ -31,7 +31,8 @@ ghost use Rattle.tablesums.specs.Heading.{headIn};
 ghost use Rattle.lapsums.specs.Judged.{lapsVerdictOf, LapsBehind};
 
 // The sums of all pairs of the basis, whose leading words lie in the bytes: their lines stand from the place from on, where the line has the
-// number first. The pairs are counted on the way; where no line is left over behind the last, each line belonged to one of them.
+// number first. The pairs are counted on the way; where no line is left over behind the last, each line belonged to one of them. The overlap
+// word of a pair is wanted for 14, so where it has a line.
 // c, l, w and o are scratch, and have their room afterwards.
 pub fn judge_overlaps(
     t: &Table,
@@ -73,7 +74,8 @@ pub fn judge_overlaps(
     let mut f = first_pair(heads, headlens, bytes, count);
     'items: while f.present {
         let item = i + 1;
-        let x = start_lap(t, f, &mut lap, c, l, w, o);
+        let lined = is_item(s, SUM_O, item);
+        let x = start_lap(t, f, lined, &mut lap, c, l, w, o);
         let mut n = x.terms;
         while is_item(s, SUM_O, item) {
             let z = pack_sides(t, bytes, s, &mut left, &mut right);

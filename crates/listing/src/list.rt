@@ -29,19 +29,25 @@ fn refusal(number: u64, place: u64) -> Listed
     }
 }
 
-// The list of the pairs of n words that lie in the bytes.
-fn list_words(heads: &[usize], headlens: &[usize], bytes: &[u8], n: usize, out: &mut [u8]) -> Listed
+// The list of the pairs of n words that lie in the bytes. Its first pairs are kept between the two walks.
+fn list_words(
+    heads: &[usize],
+    headlens: &[usize],
+    bytes: &[u8],
+    n: usize,
+    kept: &mut [u32],
+    out: &mut [u8],
+) -> Listed
     requires { ⌜ Laid (now heads) (now headlens) (now bytes) n ⌝ }
     requires { ⌜ (n ≤ 64) × AtMost24 (now headlens) n ⌝ }
     ensures { λ r. ⌜ r ≡ wordsListed (length (now (out .entry))) (laidWords (now (heads .entry)) (now (headlens .entry)) (now (bytes .entry)) n) ⌝ }
     ensures { λ _. ⌜ now (out .exit) ≡ fitted (overlapText (laidWords (now (heads .entry)) (now (headlens .entry)) (now (bytes .entry)) n)) (now (out .entry)) ⌝ }
 {
-    let mut kept = [0u32; 448];
-    let m = measure(heads, headlens, bytes, n, &mut kept);
+    let m = measure(heads, headlens, bytes, n, kept);
     if out.len() < m.bytes {
         return refusal(19, m.bytes as u64);
     }
-    let written = write_list(heads, headlens, bytes, n, &kept, m.count, out);
+    let written = write_list(heads, headlens, bytes, n, kept, m.count, out);
     Listed {
         number: 0,
         place: 0,
@@ -50,10 +56,11 @@ fn list_words(heads: &[usize], headlens: &[usize], bytes: &[u8], n: usize, out: 
     }
 }
 
-// Refusal 8 for the count polynomials of a basis that was read, and the list where there is none.
+// Refusal 8 for the count polynomials of a basis that was read, and the list where there is none. The places of the terms' words are not
+// asked for again behind the leading words: pairs of the list are kept there.
 fn list_basis(
     coefs: &[u32],
-    starts: &[u32],
+    starts: &mut [u32],
     lens: &[u8],
     bytes: &[u8],
     firsts: &[usize],
@@ -82,7 +89,7 @@ fn list_basis(
     if let BasisAnswer::Unsound { number, place } = b {
         return refusal(number as u64, place as u64);
     }
-    list_words(&heads, &headlens, bytes, count, out)
+    list_words(&heads, &headlens, bytes, count, starts, out)
 }
 
 // Lists a package's overlaps and inclusions into the output slice. Any bytes are taken.
@@ -114,7 +121,7 @@ pub fn list_package(package: &[u8], out: &mut [u8]) -> Listed
             line,
         } => list_basis(
             &coefs,
-            &starts,
+            &mut starts,
             &lens,
             package,
             &firsts,

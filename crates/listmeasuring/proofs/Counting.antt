@@ -1,11 +1,11 @@
 -- The pairs counted, and the bytes of their lines: those so far and those that are left are all.
-use mathlib.Core.Path.{_≡_, ap, _∙_}
+use mathlib.Core.Path.{_≡_, ap}
 use mathlib.Core.Bool.{true, false}
 use mathlib.Core.List.{List}
 use Prim.Native.Nat.{ℕ, suc, _+_, _-_, _*_, _≤_, _<_, max}
 use native.Mathlib.Numerals.{add-one}
 use native.Mathlib.Omega.{arith}
-use lib.ListN.{length, getD, set, drop, length-set, length-append}
+use lib.ListN.{length, getD, set, drop, length-append}
 use Rattle.words.specs.Word.{Word}
 use Rattle.words.specs.Laid.{laidWords, Laid}
 use Rattle.overlaps.specs.Pairs.{Pair}
@@ -21,7 +21,6 @@ use Rattle.listmeasuring.proofs.Lines.{found-length}
 pub record Measuring (starts lens bytes : List ℕ) (n : ℕ) (kept : List ℕ) (count total : ℕ) (f : PairAt) : Type 0 where
   pub walked : Walked starts lens bytes n count f
   pub left : seenPairs (laidWords starts lens bytes n) f ≡ drop count (overlaps (laidWords starts lens bytes n))
-  pub room : length kept ≡ 448
   pub keeps : KeptPairs lens n (laidWords starts lens bytes n) kept count
   pub summed : total + length (overlapLines (laidWords starts lens bytes n) (suc count) (seenPairs (laidWords starts lens bytes n) f)) ≡ length (overlapText (laidWords starts lens bytes n))
   pub total-most : total ≤ 33 + 128 * count
@@ -32,7 +31,6 @@ pub record Measured (starts lens bytes : List ℕ) (n : ℕ) (kept : List ℕ) (
   pub whole : total ≡ length (overlapText (laidWords starts lens bytes n))
   pub count-most : count ≤ 98304
   pub whole-most : total ≤ 16000000
-  pub room : length kept ≡ 448
   pub keeps : KeptPairs lens n (laidWords starts lens bytes n) kept count
 
 -- what the lengths of a pair's line ask
@@ -47,13 +45,12 @@ module _ (starts lens bytes : List ℕ) (n : ℕ) where
   abbrev ws : List Word
   ws = laidWords starts lens bytes n
 
-  pub measuring-start : Laid starts lens bytes n → (n ≤ 64) × AtMost24 lens n → (kept : List ℕ) → length kept ≡ 448 → (f : PairAt) → (seenPairs ws f ≡ overlaps ws) × (f .present ≡ true → FoundAt lens n f)
+  pub measuring-start : Laid starts lens bytes n → (n ≤ 64) × AtMost24 lens n → (kept : List ℕ) (f : PairAt) → (seenPairs ws f ≡ overlaps ws) × (f .present ≡ true → FoundAt lens n f)
       → Measuring starts lens bytes n kept 0 33 f
   unfolding overlapText
-  measuring-start h s kept room f e = record {
+  measuring-start h s kept f e = record {
     walked = walk-start starts lens bytes n h s f e;
     left = e .0;
-    room = room;
     keeps = kept-none lens n ws kept;
     summed = omega (arith, ap (λ (os : List Pair). length (overlapLines ws 1 os)) (e .0));
     total-most = omega arith;
@@ -73,7 +70,6 @@ module _ (starts lens bytes : List ℕ) (n : ℕ) where
       whole = let s = h .summed in omega (arith, ap (λ (os : List Pair). length (overlapLines ws (suc count) os)) (seen-none ws f p));
       count-most = walk-most starts lens bytes n count f (h .walked);
       whole-most = total-few;
-      room = h .room;
       keeps = h .keeps;
     }
 
@@ -115,7 +111,6 @@ module _ (starts lens bytes : List ℕ) (n : ℕ) where
           record {
             walked = walk-next starts lens bytes n count f (h .walked) p g e;
             left = left-behind lens n ws count f p (h .walked .words) q (h .left) g (e .0);
-            room = ap length k ∙ length-set kept count (packedPair f) ∙ h .room;
             keeps = rw k (kept-one lens n ws count f p (h .walked .words) q (h .left) kept (h .keeps));
             summed = rw (add-one count) (omega arith);
             total-most = omega arith;

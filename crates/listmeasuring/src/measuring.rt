@@ -52,20 +52,20 @@ fn word_len(lens: &[usize], f: PairAt) -> usize
     letters
 }
 
-// The number of pairs, and of the bytes of their list. The first pairs are kept.
+// The number of pairs, and of the bytes of their list. The first pairs are kept, as many as there is room for.
 pub fn measure(
     starts: &[usize],
     lens: &[usize],
     bytes: &[u8],
     n: usize,
-    kept: &mut [u32; 448],
+    kept: &mut [u32],
 ) -> Measure
     requires { ⌜ Laid (now starts) (now lens) (now bytes) n ⌝ }
-    requires { ⌜ (n ≤ 64) × AtMost24 (now lens) n × (length (now kept) ≡ 448) ⌝ }
+    requires { ⌜ (n ≤ 64) × AtMost24 (now lens) n ⌝ }
     ensures { λ r. ⌜ r .count ≡ length (overlaps (laidWords (now (starts .entry)) (now (lens .entry)) (now (bytes .entry)) n)) ⌝ }
     ensures { λ r. ⌜ r .bytes ≡ length (overlapText (laidWords (now (starts .entry)) (now (lens .entry)) (now (bytes .entry)) n)) ⌝ }
     ensures { λ r. ⌜ (r .count ≤ 98304) × (r .bytes ≤ 16000000) ⌝ }
-    ensures { λ r. ⌜ (length (now (kept .exit)) ≡ 448) × KeptPairs (now (lens .entry)) n (laidWords (now (starts .entry)) (now (lens .entry)) (now (bytes .entry)) n) (now (kept .exit)) (r .count) ⌝ }
+    ensures { λ r. ⌜ KeptPairs (now (lens .entry)) n (laidWords (now (starts .entry)) (now (lens .entry)) (now (bytes .entry)) n) (now (kept .exit)) (r .count) ⌝ }
 {
     let mut count = 0;
     let mut total = 33;

@@ -127,18 +127,18 @@ fn pair_at(
     lens: &[usize],
     bytes: &[u8],
     n: usize,
-    kept: &[u32; 448],
+    kept: &[u32],
     k: usize,
     from: Cursor,
 ) -> PairAt
     requires { ⌜ Laid (now starts) (now lens) (now bytes) n ⌝ }
     requires { ⌜ (n ≤ 64) × AtMost24 (now lens) n × Placed n from ⌝ }
-    requires { ⌜ (length (now kept) ≡ 448) × KeptPairs (now lens) n (laidWords (now starts) (now lens) (now bytes) n) (now kept) (length (overlaps (laidWords (now starts) (now lens) (now bytes) n))) ⌝ }
+    requires { ⌜ KeptPairs (now lens) n (laidWords (now starts) (now lens) (now bytes) n) (now kept) (length (overlaps (laidWords (now starts) (now lens) (now bytes) n))) ⌝ }
     requires { ⌜ (k < length (overlaps (laidWords (now starts) (now lens) (now bytes) n))) × (pairsAt (laidWords (now starts) (now lens) (now bytes) n) from ≡ drop k (overlaps (laidWords (now starts) (now lens) (now bytes) n))) ⌝ }
     ensures { λ r. ⌜ seenPairs (laidWords (now (starts .entry)) (now (lens .entry)) (now (bytes .entry)) n) r ≡ pairsAt (laidWords (now (starts .entry)) (now (lens .entry)) (now (bytes .entry)) n) from ⌝ }
     ensures { λ r. ⌜ (r .present ≡ true → FoundAt (now (lens .entry)) n r) ⌝ }
 {
-    if k < 448 {
+    if k < kept.len() {
         return unpack_pair(kept[k]);
     }
     next_pair(starts, lens, bytes, n, from)
@@ -150,14 +150,14 @@ fn write_lines(
     lens: &[usize],
     bytes: &[u8],
     n: usize,
-    kept: &[u32; 448],
+    kept: &[u32],
     count: usize,
     out: &mut [u8],
     at: usize,
 ) -> usize
     requires { ⌜ Laid (now starts) (now lens) (now bytes) n ⌝ }
     requires { ⌜ (n ≤ 64) × AtMost24 (now lens) n × (count ≡ length (overlaps (laidWords (now starts) (now lens) (now bytes) n))) ⌝ }
-    requires { ⌜ (length (now kept) ≡ 448) × KeptPairs (now lens) n (laidWords (now starts) (now lens) (now bytes) n) (now kept) count ⌝ }
+    requires { ⌜ KeptPairs (now lens) n (laidWords (now starts) (now lens) (now bytes) n) (now kept) count ⌝ }
     requires { ⌜ at + length (allLines (laidWords (now starts) (now lens) (now bytes) n)) ≤ length (now out) ⌝ }
     ensures { λ r. ⌜ r ≡ at + length (allLines (laidWords (now (starts .entry)) (now (lens .entry)) (now (bytes .entry)) n)) ⌝ }
     ensures { λ _. ⌜ now (out .exit) ≡ sets (now (out .entry)) at (allLines (laidWords (now (starts .entry)) (now (lens .entry)) (now (bytes .entry)) n)) ⌝ }
@@ -185,13 +185,13 @@ pub fn write_list(
     lens: &[usize],
     bytes: &[u8],
     n: usize,
-    kept: &[u32; 448],
+    kept: &[u32],
     count: usize,
     out: &mut [u8],
 ) -> usize
     requires { ⌜ Laid (now starts) (now lens) (now bytes) n ⌝ }
     requires { ⌜ (n ≤ 64) × AtMost24 (now lens) n × (count ≡ length (overlaps (laidWords (now starts) (now lens) (now bytes) n))) ⌝ }
-    requires { ⌜ (length (now kept) ≡ 448) × KeptPairs (now lens) n (laidWords (now starts) (now lens) (now bytes) n) (now kept) count ⌝ }
+    requires { ⌜ KeptPairs (now lens) n (laidWords (now starts) (now lens) (now bytes) n) (now kept) count ⌝ }
     requires { ⌜ length (overlapText (laidWords (now starts) (now lens) (now bytes) n)) ≤ length (now out) ⌝ }
     ensures { λ r. ⌜ r ≡ length (overlapText (laidWords (now (starts .entry)) (now (lens .entry)) (now (bytes .entry)) n)) ⌝ }
     ensures { λ _. ⌜ now (out .exit) ≡ sets (now (out .entry)) 0 (overlapText (laidWords (now (starts .entry)) (now (lens .entry)) (now (bytes .entry)) n)) ⌝ }

@@ -1,4 +1,4 @@
-// The program that prints the overlap list: it reads a package on standard input and prints the list of its overlaps, or
+// The program that prints the list: it reads a package on standard input and prints the list of its overlaps and inclusions, or
 // `refused`, number and place. What is printed for a package's bytes is stated at printing::print_into; what is read and written
 // here no contract can say.
 

@@ -1,5 +1,4 @@
-// The first pairs of the list, kept as numbers: who walks the list again need not look for them again. There is room for 448, in under 2 KB; no package of
-// examples/ has more.
+// The first pairs of the list, kept as numbers, as many as there is room for: who walks the list again need not look for them again.
 
 use crate::PairAt;
 ghost use mathlib.Core.Path.{_≡_};
@@ -42,11 +41,11 @@ pub fn unpack_pair(packed: u32) -> PairAt
 }
 
 // Keeps pair k of the list, counted from 0, where there is room for it.
-pub fn keep_pair(kept: &mut [u32; 448], k: usize, f: PairAt)
-    requires { ⌜ Small f × (length (now kept) ≡ 448) ⌝ }
+pub fn keep_pair(kept: &mut [u32], k: usize, f: PairAt)
+    requires { ⌜ Small f ⌝ }
     ensures { λ _. ⌜ now (kept .exit) ≡ set (now (kept .entry)) k (packedPair f) ⌝ }
 {
-    if k < 448 {
+    if k < kept.len() {
         kept[k] = pack_pair(f) as u32;
     }
 }

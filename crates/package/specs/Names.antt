@@ -31,7 +31,7 @@ termG = 1
 abbrev pub termB : ℕ
 termB = 2
 
--- The kinds of block 3 in their order: B, then G, then O (overlaps).
+-- The kinds of block 3 in their order: B, then G, then O (overlaps and inclusions).
 abbrev pub sumKinds : List ℕ
 sumKinds = ascii "BGO"
 
@@ -43,6 +43,6 @@ sumB = 1
 abbrev pub sumG : ℕ
 sumG = 2
 
--- Sums that equal differences of overlaps.
+-- Sums that equal differences of overlaps and inclusions.
 abbrev pub sumO : ℕ
 sumO = 3

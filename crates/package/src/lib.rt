@@ -19,7 +19,7 @@ pub const SUM_B: u32 = 1;
 // Sums that equal relations.
 pub const SUM_G: u32 = 2;
 
-// Sums that equal differences of overlaps.
+// Sums that equal differences of overlaps and inclusions.
 pub const SUM_O: u32 = 3;
 
 // The value line of block 1: p, which means a field, the number of letters, of relations and of basis polynomials.

@@ -1,5 +1,5 @@
--- What the program prints for the bytes of a package (document 01, 'Overlaps'): the overlap list, or on a refusal `refused`, number and
--- place on one line. It lends 65,536 bytes for the list; a longer one is refusal 19.
+-- What the program prints for the bytes of a package (document 01, 'Overlaps'; 02, P2): the list of its overlaps and inclusions, or on a
+-- refusal `refused`, number and place on one line. It lends 65,536 bytes for the list; a longer one is refusal 19.
 use mathlib.Core.Bool.{true, false}
 use mathlib.Core.List.{List, [], _∷_, _++_}
 use Prim.Native.Nat.{ℕ}

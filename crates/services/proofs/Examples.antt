@@ -17,7 +17,8 @@ use Rattle.acceptance.specs.Acceptance.{acceptance}
 use Rattle.acceptance.specs.Reduction.{packageReduced}
 use Rattle.services.specs.Services.{listable, checkedAs}
 use Rattle.services.specs.Demands.{AcceptedAs}
-use Rattle.services.specs.Examples.{Keeps, Empties, Claim, examples, packageNone, packageOne, edges, package256, byteRows, packageScaled, scaledRows, packageUntrimmed, packageConstants, packageTwice, untrimmedRows}
+use Rattle.services.specs.Examples.{Keeps, Empties, Claim, examples, packageNone, packageOne, edges, package256, byteRows, packageScaled, scaledRows}
+use Rattle.services.specs.UntrimmedExamples.{packageUntrimmed, packageConstants, packageTwice, untrimmedRows}
 use Rattle.services.proofs.TrivialBases.{none-keeps, one-empties}
 use Rattle.services.proofs.Rows.{shortens, is-member, refuses, lacks-room, is-above, lists, accepts}
 

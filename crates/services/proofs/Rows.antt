@@ -109,7 +109,7 @@ lacks-room acc {text} {budget} {m} {N} computed {room} e h = rw (← e) (record 
 pub is-above : {u v : List ℕ} {x y : Word} → wordOf u ≡ word x → wordOf v ≡ word y → wordOrder x y ≡ Above → IsAbove u v
 is-above {x = x} {y} a b c = record { first = x; second = y; says-first = a; says-second = b; greater = c }
 
--- A row of a list of overlaps.
+-- A row of a list.
 pub lists : {bytes : List ℕ} {P : Package} → listable bytes ≡ read P
     → {count : ℕ} {list : List ℕ} → length (overlaps (leads (basis P))) ≡ count → overlapText (leads (basis P)) ≡ list → Lists bytes count list
 unfolding listedAs listedInto listAnswer listOutput

@@ -71,7 +71,7 @@ Refusing hi n = Between 1 hi n × (n ≢ 9)
 abbrev pub Success : ℕ → ℕ → Type 0
 Success number place = (number ≡ 0) × (place ≡ 0)
 
--- The check answers, or it refuses by one of 1 to 15, but not by 9, with overlap count 0.
+-- The check answers, or it refuses by one of 1 to 15, but not by 9, and counts no pair.
 abbrev pub CheckEnds : Checked → Type 0
 CheckEnds a = Success (a .number) (a .place) ⊎ (Refusing 15 (a .number) × (a .overlaps ≡ 0))
 
@@ -140,7 +140,8 @@ pub record ListsOverlaps (P : Package) (a : Listed) (before after : List ℕ) : 
   pub output : after ≡ atStart (listText P rows) before
 
 -- m steps by the rule lead from f to N. Each is the step that the rule names (StepRule: the greatest word that has a leading word inside, at the leftmost
--- place, and of the polynomials that lead there the one with the lowest number); `stepped` subtracts that word's coefficient × inverse of the leading coefficient × left × basis polynomial × right.
+-- place, and of the polynomials that lead there the one with the lowest number); `stepped` subtracts that word's coefficient × inverse of the leading
+-- coefficient × left × basis polynomial × right.
 pub data StepsTo (P : Package) : Poly → ℕ → Poly → Type 0 where
   unmoved : {f : Poly} → StepsTo P f 0 f
   stepThen : {f N : Poly} {m : ℕ} {t : Term} {i n : ℕ} → StepRule wordOrder (basis P) f t i n
@@ -181,7 +182,7 @@ pub record DecidesBySteps (P : Package) (f : Poly) (a : Membership) : Type 0 whe
   pub no : form ≢ [] → a .member ≡ 0
 
 -- Demand 2. A package is accepted exactly when document 01's facts hold of it; every service refuses exactly when 01 says so, with the number and place
--- given there; and the overlap list, each rewriting step, the step count, the short form and the yes or no of membership are those of 01's definitions.
+-- given there; and the list of pairs, each rewriting step, the step count, the short form and the yes or no of membership are those of 01's definitions.
 -- What document 02 changes of 01 is said where it does: refusal 3 (P9); refusal 8, steps and differences (P4); inclusions, and refusal 9, which is no
 -- longer met (P2).
 --
@@ -292,7 +293,8 @@ pub record Demand3 : Type 0 where
 -- listing short words (P7: 24), adding a trail back (P8: 25), carrying short forms (P13: 30 to 32), single coefficients (P14). P8's trail is a second slice
 -- that a refusal leaves unchanged. The ranges above grow where the check, the reader or the steps gain a number (P10: 26, 27; P11: 28, 29).
 --
--- Demand 2 gets what each new answer is by its definition: a completed package is accepted (P1); words are counted and listed (P7); a trail gives its formula back (P8); every single change that makes a member is listed, once, and nothing else (P14).
+-- Demand 2 gets what each new answer is by its definition: a completed package is accepted (P1); words are counted and listed (P7); a trail gives its
+-- formula back (P8); every single change that makes a member is listed, once, and nothing else (P14).
 --
 -- Demand 3 keeps its fields under weights (P10), as it did under any leading coefficient (P4) and untrimmed bases (P2), where `fieldOf`, `wordOrder` and
 -- `Short` are given by the package. It gains that a formula and its short form act alike on blocks (P5), that the two houses' sums are the same (P11), that

@@ -1,3 +1,4 @@
 pub mod Services
 pub mod Demands
 pub mod Examples
+pub mod UntrimmedExamples

@@ -49,7 +49,7 @@ pub record Inside (bytes : List ℕ) (at : ℕ) (r : SumAt) : Type 0 where
   pub left-in : r .left + r .leftlen ≤ length bytes
   pub right-in : r .right + r .rightlen ≤ length bytes
 
--- An O line whose item is above the overlap count.
+-- An O line whose item is above the count of overlaps and inclusions.
 unfoldable pub aboveCount : ℕ → ℕ → ℕ → Bool
 aboveCount count k i = elim (eqb k sumO) [ false ↦ false | true ↦ ltb count i ]
 

@@ -1,4 +1,4 @@
-// Refusal 15: an O line whose item is above the overlap count.
+// Refusal 15: an O line whose item is above the count of overlaps and inclusions.
 
 use crate::SumAt;
 use crate::sum_line::line_at;

@@ -1,5 +1,5 @@
 -- The lines of one item taken away from its target, one after the other: what is left of them, and then what follows, gives the verdict. The sums of a
--- kind and those of the overlaps go by these laws alike.
+-- kind and those of the pairs go by these laws alike.
 use mathlib.Core.Path.{_≡_}
 use mathlib.Core.Bool.{Bool, true, false}
 use mathlib.Core.List.{List, [], _∷_}

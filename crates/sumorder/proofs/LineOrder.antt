@@ -133,7 +133,7 @@ sums-skip n k K O G s ss (f ∷ fs) i h =
     let d : s .kind ≡ k → s .item ≢ i = λ e q. let z = h e in omega arith in
     rw (sum-skip k i s ss d, sums-skip n k K O G s ss fs (suc i) (λ e. let z = h e in omega arith))
 
--- A line of an earlier overlap, or of another kind, is none of the overlaps' that are left.
+-- A line of an earlier pair, or of another kind, is none of the pairs' that are left.
 pub overlaps-skip : (K : Operations) (O : Order) (G : Family) (s : SumLine) (ss : List SumLine) (os : List Pair) (i : ℕ) → (s .kind ≡ sumO → s .item < i)
     → overlapsJudged K O G (s ∷ ss) os i ≡ overlapsJudged K O G ss os i
 unfolding overlapsJudged

@@ -45,7 +45,7 @@ module _ (K : Operations) (O : Order) where
   unfolding rowVerdict kindsJudged
   row-first s kinds ps ss = then-assoc (sumsJudged (s .number) (s .kind) K O (family (s .others)) ss (s .targets) 1) (kindsJudged K O ss kinds) _
 
-  -- No kind left: 15, then the overlaps.
+  -- No kind left: 15, then the overlaps and inclusions.
   pub row-none : (ps : List Poly) (ss : List SumLine)
       → rowVerdict K O [] ps ss ≡ thenJudge (itemsJudged (length (overlaps (leads ps))) ss) (overlapsJudged K O (family ps) ss (overlaps (leads ps)) 1)
   unfolding rowVerdict kindsJudged thenJudge

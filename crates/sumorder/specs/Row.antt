@@ -9,7 +9,7 @@ use Rattle.overlaps.specs.Overlaps.{leads, overlaps}
 use Rattle.package.specs.Sums.{SumLine}
 use Rattle.acceptance.specs.Check.{Verdict, thenJudge, Side, kindsJudged, itemsJudged, overlapsJudged}
 
--- The kinds that are left, then 15, then the overlaps of the basis ps.
+-- The kinds that are left, then 15, then the overlaps and inclusions of the basis ps.
 unfoldable pub rowVerdict : Operations → Order → List Side → List Poly → List SumLine → Verdict
 unfolding thenJudge kindsJudged itemsJudged overlapsJudged leads overlaps family
 rowVerdict K O kinds ps ss =

@@ -1,4 +1,4 @@
--- What contracts cite of sum lines and overlaps on a table.
+-- What contracts cite of sum lines and of overlaps and inclusions on a table.
 pub mod ShortWords
 pub mod Lines
 pub mod Leading

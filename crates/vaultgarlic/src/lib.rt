@@ -17,7 +17,7 @@ pub extern "C" fn vg_check(package: &[u8]) -> Checked
     answering::check::check_package(package)
 }
 
-// Lists a package's overlaps into the output slice. Any bytes are taken.
+// Lists a package's overlaps and inclusions into the output slice. Any bytes are taken.
 #[no_mangle]
 pub extern "C" fn vg_list_overlaps(package: &[u8], out: &mut [u8]) -> Listed
     ensures { λ r. ⌜ r ≡ listedAs (now («package» .entry)) (length (now (out .entry))) ⌝ }

@@ -1,7 +1,7 @@
 -- One law for each way through a comparison from the end.
 use mathlib.Core.Path.{_≡_, refl, sym, _∙_}
 use mathlib.Core.Bool.{Bool, true, false, true≢false}
-use Prim.Native.Nat.{ℕ, suc, _+_, _-_, _≤_, _<_}
+use Prim.Native.Nat.{ℕ, zero, suc, _+_, _-_, _≤_, _<_}
 use native.Mathlib.Nat.{add-zero}
 use native.Mathlib.Omega.{arith}
 use lib.ListN.{length, getD, drop}
@@ -10,7 +10,9 @@ use Rattle.words.specs.Place.{Stands, standsAt, comparedAt, past, all}
 use Rattle.words.proofs.Standing.{stands-iff, stands-not, stands-past, stands-letter}
 use Rattle.words.proofs.Comparing.{behind-all, behind-same, behind-differs, compared-iff}
 use Rattle.wordplaces.specs.TwoLetters.{twoSame}
+use Rattle.wordplaces.specs.EightLetters.{sameFor}
 use Rattle.wordplaces.proofs.TwoLetters.{both-same, same-both}
+use Rattle.wordplaces.proofs.EightLetters.{same-each}
 
 -- b fits at place i of w, and all letters behind its first n were compared and none differed: they stand in w where b would have them.
 pub record Agreed (b w : Word) (i n : ℕ) : Type 0 where
@@ -29,6 +31,9 @@ module _ (b w : Word) (i : ℕ) where
   pub none-compared : i + length b ≤ length w → Agreed b w i (length b)
   none-compared h = record { fits = h; most = omega arith; stands = behind-all b w i h }
 
+  pub some-compared : i + length b ≤ length w → (n : ℕ) → (n ≤ length b) × Stands (drop n b) w (i + n) → Agreed b w i n
+  some-compared h n (m, s) = record { fits = h; most = m; stands = s }
+
   -- the last of n + 1 letters
   module _ (n m : ℕ) (e : m ≡ suc n) (a : Agreed b w i m) where
     inside : n < length b
@@ -45,6 +50,18 @@ module _ (b w : Word) (i : ℕ) where
       sym (stands-not b w i (λ s. d (sym (stands-letter b w i s n inside)))),
       sym (compared-iff b w i (length b - n) .1 (behind-differs b w i n inside behind d)),
     )
+
+  -- m letters behind the first n
+  some-agree : (m n : ℕ) → Agreed b w i (n + m) → ((k : ℕ) → k < m → getD b (n + k) 0 ≡ getD w (i + n + k) 0) → Agreed b w i n
+  some-agree zero n a f = rw (add-zero n) at a
+  some-agree (suc m) n a f =
+      let e : i + n + m ≡ i + (n + m) = omega arith in
+      some-agree m n (one-agrees (n + m) (n + suc m) (omega arith) a (rw e at (f m (omega arith)))) (λ k h. f k (omega arith))
+
+  pub eight-agree : (n : ℕ) → 7 < n → Agreed b w i n → sameFor b (n - 8) w (i + (n - 8)) 8 ≡ true → Agreed b w i (n - 8)
+  eight-agree n h a t =
+      let e : n - 8 + 8 ≡ n = omega arith in
+      some-agree 8 (n - 8) (rw e a) (same-each b w 8 (n - 8) (i + (n - 8)) t)
 
   -- the last two of n letters, the places of which the code writes as n - 2 and n - 1
   module _ (n : ℕ) (h : 1 < n) (a : Agreed b w i n) where

@@ -1,3 +1,4 @@
 pub mod PlaceTurns
 pub mod TwoLetters
+pub mod EightLetters
 pub mod ComparingTurns

@@ -23,8 +23,8 @@ module _ (u v : Word) (i j : ℕ) where
   unfolding twoSame
   same-both e f = rw (twoSame, eq-eqb (getD u i 0) (getD v j 0) e, eq-eqb (getD u (i + 1) 0) (getD v (j + 1) 0) f)
 
--- two bytes each, as numbers
-two-numbers : (a b c d : ℕ) → a < 256 → c < 256 → eqb (a + b * 256) (c + d * 256) ≡ elim (eqb a c) [ true ↦ eqb b d | false ↦ false ]
+-- a byte and what is behind it each, as numbers
+pub two-numbers : (a b c d : ℕ) → a < 256 → c < 256 → eqb (a + b * 256) (c + d * 256) ≡ elim (eqb a c) [ true ↦ eqb b d | false ↦ false ]
 two-numbers a b c d h k = go (eqb a c) refl (eqb b d) refl
   where
     go : (t : Bool) → eqb a c ≡ t → (s : Bool) → eqb b d ≡ s → eqb (a + b * 256) (c + d * 256) ≡ elim t [ true ↦ s | false ↦ false ]

@@ -1,1 +1,2 @@
 pub mod TwoLetters
+pub mod EightLetters

@@ -1,5 +1,6 @@
 // Where a word stands in another: w is left × b × right, and the place is the number of left's letters.
 
+use crate::eight_letters::eights_left;
 use crate::two_letters::two_same;
 ghost use mathlib.Core.Path.{_≡_};
 ghost use mathlib.Core.Bool.{false};
@@ -23,8 +24,8 @@ fn not_standing(compared: usize) -> Stood
     }
 }
 
-// Whether b stands in w at the place, compared from b's last letter back to the first that differs: two letters at once, as long as there
-// are two. Where the two differ the later one is looked at first.
+// Whether b stands in w at the place, compared from b's last letter back to the first that differs: eight letters at once as long as they
+// are the same, then two at once as long as there are two. Where the two differ the later one is looked at first.
 pub fn stands_at(b: &[u8], w: &[u8], at: usize) -> Stood
     ensures { λ r. ⌜ r .stands ≡ standsAt (now (b .entry)) (now (w .entry)) at ⌝ }
     ensures { λ r. ⌜ r .compared ≡ comparedAt (now (b .entry)) (now (w .entry)) at ⌝ }
@@ -32,7 +33,7 @@ pub fn stands_at(b: &[u8], w: &[u8], at: usize) -> Stood
     if w.len() < at || w.len() - at < b.len() {
         return not_standing(0);
     }
-    let mut n = b.len();
+    let mut n = eights_left(b, w, at);
     while n > 1 {
         let k = n - 2;
         if !two_same(b, k, w, at + k) {

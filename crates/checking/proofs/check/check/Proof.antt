@@ -1,4 +1,4 @@
--- `check` judges the kinds of sums and then the overlaps. The loop's invariant: the row from the next kind on gives the verdict (proofs/KindsJudging).
+-- `check` judges the kinds of sums and then the pairs. The loop's invariant: the row from the next kind on gives the verdict (proofs/KindsJudging).
 use Prim.Native.Nat.{_-_}
 use native.Mathlib.Omega.{arith}
 use Rattle.working.specs.Working.{Arranged}
@@ -15,7 +15,7 @@ Inv-loop t heads headlens bytes from first c₀ l₀ w₀ o₀ at₀ line₀ kin
 abbrev μ-loop : tie.MeasureT-loop
 μ-loop t heads headlens bytes from first c₀ l₀ w₀ o₀ at₀ line₀ kind₀ c l w o at line kind = 3 - kind
 
--- from a kind's answer, and from that on the overlaps, back to the turn's top, and to the start
+-- from a kind's answer, and from that on the pairs, back to the turn's top, and to the start
 abbrev top : tie.After-judge-sums Inv-loop μ-loop → tie.At-loop Inv-loop μ-loop
 top b = b .before .before .before .before .before .before
 

@@ -1,4 +1,4 @@
--- `judge_laps` judges the overlaps, and looks for 15 where they are refused or a line is left over.
+-- `judge_laps` judges the pairs, and looks for 15 where they are refused or a line is left over.
 use mathlib.Core.Path.{sym, ap, _∙_}
 use Prim.Native.Nat.{ℕ}
 use borrow.Author.Tests.{not-true}
@@ -11,7 +11,7 @@ use borrow.Author.Needs.{needs}
 use Rattle.lapsums.proofs.laps.judge_laps.Statement.{statement}
 use Rattle.lapsums.proofs.laps.judge_laps.Tie as tie
 
--- from what the overlaps were judged back to the start, and to it from the two arms
+-- from what the pairs were judged back to the start, and to it from the two arms
 abbrev start : tie.After-judge-overlaps → tie.Start
 start j = j .before .before .before .before .before .before .before .before
 

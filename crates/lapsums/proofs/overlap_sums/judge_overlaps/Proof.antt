@@ -26,6 +26,7 @@ use Rattle.tablesums.proofs.Fitting.{short-fits}
 use Rattle.tablesums.proofs.LeadingWords.{lapping}
 use Rattle.tablelies.proofs.SumWords.{line-words}
 use Rattle.lapsums.specs.Judged.{lapsVerdictOf, LapsBehind}
+use Rattle.lapsums.specs.LapWord.{LapWord}
 use Rattle.lapsums.proofs.CountedHeads.{count-asked, count-found, count-first, count-behind}
 use Rattle.lapsums.proofs.OverlapsJudging.{OverlapsDone, LapDone, overlaps-start, lap-start, lap-not, lap-over, lap-next, lap-wrong, lap-end}
 use Rattle.lapsums.proofs.OverlapsJudging.{overlaps-end, line-small, line-names, line-tested, line-taken}
@@ -34,7 +35,7 @@ use Rattle.lapsums.proofs.overlap_sums.judge_overlaps.Statement.{statem
 use Rattle.lapsums.proofs.overlap_sums.judge_overlaps.Tie as tie
 
 abbrev Inv-loop : tie.InvT-loop
-Inv-loop t heads headlens bytes from first c₀ l₀ w₀ o₀ count base left₀ right₀ lap buf₀ at₀ line₀ s₀ i f item x n₀ c l w o left right buf at line s n =
+Inv-loop t heads headlens bytes from first c₀ l₀ w₀ o₀ count base left₀ right₀ lap buf₀ at₀ line₀ s₀ i f item lined x n₀ c l w o left right buf at line s n =
     (n ≤ 512)
     × (length left ≡ 6)
     × (length right ≡ 6)
@@ -44,9 +45,10 @@ Inv-loop t heads headlens bytes from first c₀ l₀ w₀ o₀ count base left�
     (overlapsJudged (fieldIn t) (orderIn t) (family (basisIn t)) (sumsAt bytes from first) (overlaps (leads (basisIn t))) 1)
     (length (overlaps (leads (basisIn t)))) (itemsJudged (length (overlaps (leads (basisIn t)))) (sumsAt bytes from first))
     at line i f (formula t c l w o n) s
+    × (firstIs sumO (i + 1) (heldFrom bytes line s) ≡ true → lined ≡ true)
 
 abbrev μ-loop : tie.MeasureT-loop
-μ-loop t heads headlens bytes from first c₀ l₀ w₀ o₀ count base left₀ right₀ lap buf₀ at₀ line₀ s₀ i f item x n₀ c l w o left right buf at line s n =
+μ-loop t heads headlens bytes from first c₀ l₀ w₀ o₀ count base left₀ right₀ lap buf₀ at₀ line₀ s₀ i f item lined x n₀ c l w o left right buf at line s n =
     length bytes - at
 
 abbrev Inv-items : tie.InvT-items
@@ -84,7 +86,7 @@ abbrev begun : tie.At-loop Inv-loop μ-loop Inv-items μ-items → tie.After-sta
 begun m = m .before
 
 abbrev lap : tie.After-start-lap Inv-loop μ-loop Inv-items μ-items → tie.In-items Inv-loop μ-loop Inv-items μ-items
-lap a = a .before .before .before .before .before .before
+lap a = a .before .before .before .before .before .before .before
 
 abbrev turn : tie.Then1 Inv-loop μ-loop Inv-items μ-items → tie.At-loop Inv-loop μ-loop Inv-items μ-items
 turn x = x .before .before
@@ -118,15 +120,20 @@ asked b = count-asked (start b .pre .0 .0) (start b .pre .0 .1) (b .basis-in .en
 -- the next line is one of the pair, or none
 ours : (x : tie.Then1 Inv-loop μ-loop Inv-items μ-items)
     → firstIs sumO (outer (turn x) .items .i + 1) (heldFrom (opened (turn x) .args .bytes .now) (turn x .loop .line) (turn x .loop .s)) ≡ true
-ours x = sym (x .before .is-item .ensures _ _) ∙ x .if1 .taken
+ours x = sym (x .before .is-item2 .ensures _ _) ∙ x .if1 .taken
 
 none : (x : tie.Else1 Inv-loop μ-loop Inv-items μ-items)
     → firstIs sumO (outer (ended x) .items .i + 1) (heldFrom (opened (ended x) .args .bytes .now) (ended x .loop .line) (ended x .loop .s)) ≡ false
-none x = sym (x .before .is-item .ensures _ _) ∙ x .if1 .left
+none x = sym (x .before .is-item2 .ensures _ _) ∙ x .if1 .left
 
 -- the polynomial that it names, and the test of 14
 names : (x : tie.Then1 Inv-loop μ-loop Inv-items μ-items) → (1 ≤ turn x .loop .s .of) × (turn x .loop .s .of ≤ basisCountIn (opened (turn x) .args .t .now))
 names x = line-names _ _ _ _ _ _ _ _ _ _ _ _ (turn x .loop .inv .5) (ours x)
+
+-- the overlap word, which was wanted since the pair has a line
+worded : (x : tie.Then1 Inv-loop μ-loop Inv-items μ-items)
+    → LapWord (opened (turn x) .args .t .now) (pairOf (outer (turn x) .items .f)) (begun (turn x) .start-lap .result .size) (begun (turn x) .start-lap .last .1 .1 .1 .0)
+worded x = begun (turn x) .start-lap .ensures .1 .0 (turn x .loop .inv .6 (ours x))
 
 abbrev back : tie.After-is-under Inv-loop μ-loop Inv-items μ-items → tie.At-loop Inv-loop μ-loop Inv-items μ-items
 back u = turn (entered (packed u))
@@ -142,7 +149,7 @@ tested u a e =
     let p = packed u in
     let x = entered p in
     let (l, r) = p .pack-sides .ensures in
-    line-tested _ _ _ _ _ _ _ _ _ _ _ _ (turn x .loop .inv .5) (ours x) _ _ _ l r _ (begun (turn x) .start-lap .ensures .1 .0) _ (u .is-under .ensures .0) a e
+    line-tested _ _ _ _ _ _ _ _ _ _ _ _ (turn x .loop .inv .5) (ours x) _ _ _ l r _ (worded x .word) _ (u .is-under .ensures .0) a e
 
 basis-in-requires : tie.Need-basis-in-requires Inv-loop μ-loop Inv-items μ-items
 basis-in-requires c κs = search needs
@@ -177,9 +184,12 @@ add-item : tie.Need-add-item Inv-loop μ-loop Inv-items μ-items
 add-item c =
     omega (arith, walk-few _ _ _ _ _ _ (top c .items .inv .6) (c .items-test .taken))
 
+is-item-requires : tie.Need-is-item-requires Inv-loop μ-loop Inv-items μ-items
+is-item-requires c κs = search needs
+
 start-lap-requires : tie.Need-start-lap-requires Inv-loop μ-loop Inv-items μ-items
 start-lap-requires c κs =
-    let x = c .before .before .before .before .before in
+    let x = c .before .before .before .before .before .before in
     let m = top x in
     let b = counted m in
     let (tabled, heads) = start b .pre .0 in
@@ -191,6 +201,7 @@ loop-holds : tie.Need-loop-holds Inv-loop μ-loop Inv-items μ-items
 loop-holds c =
     let x = lap c in
     let i = top x .items .inv in
+    let asks = c .before .before .before .before .before .before in
     let e = c .start-lap .ensures in
     let less = e .0 .0 in (
       omega arith,
@@ -199,10 +210,11 @@ loop-holds c =
       i .3,
       e .1 .1 .0,
       lap-start _ _ _ _ _ _ _ _ _ _ _ _ (i .7) (x .items-test .taken) _ (e .1 .1 .1),
+      λ p. asks .is-item .ensures _ _ ∙ p,
     )
 
-is-item-requires : tie.Need-is-item-requires Inv-loop μ-loop Inv-items μ-items
-is-item-requires c κs = search needs
+is-item-requires-2 : tie.Need-is-item-requires-2 Inv-loop μ-loop Inv-items μ-items
+is-item-requires-2 c κs = search needs
 
 pack-sides-requires : tie.Need-pack-sides-requires Inv-loop μ-loop Inv-items μ-items
 pack-sides-requires c κs =
@@ -219,7 +231,7 @@ is-under-requires c κs =
     let i = m .loop .inv in
     let n = names x in
     let (l, r) = p .pack-sides .ensures in
-    ((tabled, n .0, n .1, begun m .start-lap .ensures .0 .1, i .3), (l .short, r .short))
+    ((tabled, n .0, n .1, worded x .built, i .3), (l .short, r .short))
 
 add-j : tie.Need-add-j Inv-loop μ-loop Inv-items μ-items
 add-j c =
@@ -284,6 +296,7 @@ loop-again c =
       k .take-item .ensures .0 .1,
       k .take-item .ensures .1 .0,
       lap-next _ _ _ _ _ _ _ _ _ _ _ _ (i .5) (ours x) e _ q _ (terms-length _ 0 _) most _ (c .line-at2 .ensures .1) (c .line-at2 .ensures .0),
+      λ p. i .6 (ours x),
     )
 
 pair-behind-requires : tie.Need-pair-behind-requires Inv-loop μ-loop Inv-items μ-items
@@ -307,7 +320,7 @@ items-again c =
     let q = c .pair-behind .ensures in (
       i .1,
       i .2,
-      begun m .start-lap .ensures .0 .1 .nine,
+      begun m .start-lap .ensures .0 .1,
       i .3,
       h .arranged,
       h .room,
@@ -363,9 +376,10 @@ judge-overlaps-spec =
     first-pair-requires
     items-holds
     add-item
+    is-item-requires
     start-lap-requires
     loop-holds
-    is-item-requires
+    is-item-requires-2
     pack-sides-requires
     is-under-requires
     add-j

@@ -104,9 +104,9 @@ same-length c = search needs
 returns-2 : tie.Need-returns-2
 unfolding seenAll countAll gensAll basisAll FirstsHeld
 returns-2 c =
-    let w = c .before .before .before .before .before .before .before .before .before .before .before .before .before .before .before .before .before .before .before .read-package in
+    let w = c .before .before .before .before .before .before .before .before .before .before .before .before .before .before .before .before .before .before .before .before .read-package in
     let t = w .ensures in
-    let v = c .before .before .before .before .before .before .before .before .before .before .before .r2 .given in
+    let v = c .before .before .before .before .before .before .before .before .before .before .before .before .r2 .given in
     let g = v .1 in
     let e = rw g at (t .0) in
     let inside = rw g at (t .1 .0) in
@@ -117,7 +117,7 @@ returns-2 c =
     let lo : length (w .last .1 .1 .1 .1 .0) ≡ 1024 = w .kept .1 .1 .1 .1 .0 in
     let ll : length (w .last .1 .1 .1 .1 .1 .0) ≡ 1024 = w .kept .1 .1 .1 .1 .1 .0 in
     let lf : length fs ≡ 98 = w .kept .1 .1 .1 .1 .1 .1 .0 in
-    let b = c .before .before .list-basis .ensures in
+    let b = c .before .before .before .list-basis .ensures in
     let x = basis-held _ _ _ _ _ _ fs _ _ (v .0 .1 .1 .0) (v .0 .1 .1 .1 .0) e marked (inside .1) (omega arith) (omega arith) (omega arith) (omega arith) in
     (b .0 ∙ ap (basisListed _) x ∙ sym (read-listed _ _ _ e), b .1 ∙ ap (basisOutput _) x ∙ sym (read-written _ _ _ e))
 

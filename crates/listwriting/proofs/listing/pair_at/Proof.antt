@@ -10,20 +10,19 @@ use Rattle.listwriting.proofs.listing.pair_at.Tie as tie
 mul-unpack-pair : tie.Need-mul-unpack-pair
 mul-unpack-pair c = search needs
 
-element-copy-out-unpack-pair : tie.Need-element-copy-out-unpack-pair
-element-copy-out-unpack-pair c = search needs
+shared-slice-read-unpack-pair : tie.Need-shared-slice-read-unpack-pair
+shared-slice-read-unpack-pair c = search needs
 
 unpack-pair-requires : tie.Need-unpack-pair-requires
 unpack-pair-requires c κs = search needs
 
 returns : tie.Need-returns
 returns c =
-    let s = c .before .before .before .before .before .before in
+    let s = c .before .before .before .before .before .before .before in
     let a = s .args in
     let t = c .before .before .if1 .taken in
-    let (room, keeps) = s .pre .1 .1 .0 in
     let (more, left) = s .pre .1 .1 .1 in
-    let kp = keeps (a .k) (omega arith) more in
+    let kp = s .pre .1 .1 .0 (a .k) (omega arith) more in
     let e = c .unpack-pair .ensures (kp .pair) (kp .small) (kp .is) in
     (ap (seenPairs (laidWords (a .starts .now) (a .lens .now) (a .bytes .now) (a .n))) e ∙ kp .left ∙ sym left, λ p. subst (FoundAt (a .lens .now) (a .n)) (sym e) (kp .found))
 
@@ -38,7 +37,7 @@ pair-at-spec =
     tie.close
     (tie.spec
     mul-unpack-pair
-    element-copy-out-unpack-pair
+    shared-slice-read-unpack-pair
     unpack-pair-requires
     returns
     next-pair-requires

@@ -18,19 +18,19 @@ abbrev μ-loop : tie.MeasureT-loop
 
 -- a line is left
 more : (i : tie.In-loop Inv-loop μ-loop)
-    → let s = i .before .before .before .before .before .before .args in
+    → let s = i .before .before .before .before .before .before .before .args in
     i .before .loop .k < length (overlaps (laidWords (s .starts .now) (s .lens .now) (s .bytes .now) (s .n)))
-more i = let e = i .before .before .before .before .before .before .pre .1 .0 .2 in let t = i .loop-test .taken in omega arith
+more i = let e = i .before .before .before .before .before .before .before .pre .1 .0 .2 in let t = i .loop-test .taken in omega arith
 
 loop-holds : tie.Need-loop-holds Inv-loop μ-loop
-loop-holds c = let s = c .before .before .before .before in writing-start _ _ _ _ _ _ (s .pre .0) (s .pre .1 .0 .0) (s .pre .1 .0 .1) (s .pre .1 .1 .1)
+loop-holds c = let s = c .before .before .before .before .before in writing-start _ _ _ _ _ _ (s .pre .0) (s .pre .1 .0 .0) (s .pre .1 .0 .1) (s .pre .1 .1 .1)
 
 pair-at-requires : tie.Need-pair-at-requires Inv-loop μ-loop
 pair-at-requires c κs =
     let w = c .before .loop .inv in
-    let s = c .before .before .before .before .before .before in
+    let s = c .before .before .before .before .before .before .before in
     let a = s .args in
-    (w .laid, ((w .words, w .short, w .placed), ((s .pre .1 .1 .0 .0, subst (KeptPairs (a .lens .now) (a .n) (laidWords (a .starts .now) (a .lens .now) (a .bytes .now) (a .n)) (a .kept .now)) (s .pre .1 .0 .2) (s .pre .1 .1 .0 .1)), (more c, w .left))))
+    (w .laid, ((w .words, w .short, w .placed), (subst (KeptPairs (a .lens .now) (a .n) (laidWords (a .starts .now) (a .lens .now) (a .bytes .now) (a .n)) (a .kept .now)) (s .pre .1 .0 .2) (s .pre .1 .1 .0), (more c, w .left))))
 
 add-k : tie.Need-add-k Inv-loop μ-loop
 add-k c = omega (arith, number-few _ _ _ _ _ _ _ _ _ _ (c .before .before .loop .inv) (more (c .before)))
@@ -52,7 +52,7 @@ same-length c = c .before .loop .inv .same-length
 
 returns : tie.Need-returns Inv-loop μ-loop
 returns c =
-    let s = c .before .before .before .before .before .before in
+    let s = c .before .before .before .before .before .before .before in
     let e = s .pre .1 .0 .2 in
     let l = c .loop-test .left in
     writing-end _ _ _ _ _ _ _ _ _ _ (c .before .loop .inv) (omega arith)

@@ -11,20 +11,23 @@ pack-pair-requires : tie.Need-pack-pair-requires
 pack-pair-requires c κs = search needs
 
 cast-kept : tie.Need-cast-kept
-cast-kept c = let s = c .before .before in let e = c .pack-pair .ensures in let q = packed-few _ (s .pre .0) in search needs
+cast-kept c = let s = c .before .before .before in let e = c .pack-pair .ensures in let q = packed-few _ (s .pre) in search needs
 
 mul-kept : tie.Need-mul-kept
 mul-kept c = search needs
 
-element-write-kept : tie.Need-element-write-kept
-element-write-kept c = search needs
+slice-write-kept : tie.Need-slice-write-kept
+slice-write-kept c = search needs
+
+same-length : tie.Need-same-length
+same-length c = search needs
 
 returns : tie.Need-returns
-returns c = let s = c .before .before in ap (set (s .args .kept .now) (s .args .k)) (c .pack-pair .ensures)
+returns c = let s = c .before .before .before in ap (set (s .args .kept .now) (s .args .k)) (c .pack-pair .ensures)
 
 returns-2 : tie.Need-returns-2
-returns-2 c = let s = c .before in sym (set-past _ _ _ (omega (arith, s .pre .1, c .if1 .left)))
+returns-2 c = sym (set-past _ _ _ (omega (arith, c .if1 .left)))
 
 pub keep-pair-spec : {M : Type 1} → statement M
 keep-pair-spec =
-    tie.close (tie.spec pack-pair-requires cast-kept mul-kept element-write-kept returns returns-2)
+    tie.close (tie.spec pack-pair-requires cast-kept mul-kept slice-write-kept same-length returns returns-2)

@@ -13,10 +13,16 @@ Inv-loop out₀ at b i₀ o₀ out i o =
     (i ≤ length b)
     × (o ≡ at + i)
     × (length out ≡ length out₀)
-    × (sets out o (drop i b) ≡ sets out₀ at b)
+    × (sets out o (drop i b) ≡ sets out₀ o₀ (drop i₀ b))
 
 abbrev μ-loop : tie.MeasureT-loop
 μ-loop out₀ at b i₀ o₀ out i o = length b - i
+
+put-eights-requires : tie.Need-put-eights-requires Inv-loop μ-loop
+put-eights-requires c κs = search needs
+
+add-o : tie.Need-add-o Inv-loop μ-loop
+add-o c = search needs
 
 loop-holds : tie.Need-loop-holds Inv-loop μ-loop
 loop-holds c = search needs
@@ -27,8 +33,8 @@ shared-slice-read-out c = search needs
 slice-write-out : tie.Need-slice-write-out Inv-loop μ-loop
 slice-write-out c = search needs
 
-add-o : tie.Need-add-o Inv-loop μ-loop
-add-o c = search needs
+add-o-2 : tie.Need-add-o-2 Inv-loop μ-loop
+add-o-2 c = search needs
 
 add-i : tie.Need-add-i Inv-loop μ-loop
 add-i c = search needs
@@ -47,7 +53,7 @@ same-length c = search needs
 returns : tie.Need-returns Inv-loop μ-loop
 returns c =
     let l = c .before in
-    (search needs, sym (sets-none _ (l .loop .out) (l .loop .i) (l .loop .o) (c .loop-test .left)) ∙ l .loop .inv .3)
+    (search needs, sym (sets-none _ (l .loop .out) (l .loop .i) (l .loop .o) (c .loop-test .left)) ∙ l .loop .inv .3 ∙ l .before .before .before .put-eights .ensures .1)
 
 pub put-bytes-spec : {M : Type 1} → statement M
 put-bytes-spec =
@@ -55,10 +61,12 @@ put-bytes-spec =
     (tie.spec
     Inv-loop
     μ-loop
+    put-eights-requires
+    add-o
     loop-holds
     shared-slice-read-out
     slice-write-out
-    add-o
+    add-o-2
     add-i
     loop-less
     loop-again

@@ -5,7 +5,7 @@ use Prim.Native.Nat.{_-_}
 use native.Mathlib.Omega.{arith}
 use lib.ListN.{length}
 use borrow.Author.Tests.{ltb-true, ltb-false, not-true, not-false}
-use Rattle.wordplaces.proofs.ComparingTurns.{Agreed, both-joined, said-past, none-compared, two-agree, later-differs, earlier-differs, first-agrees, first-differs, said-stands}
+use Rattle.wordplaces.proofs.ComparingTurns.{Agreed, both-joined, said-past, some-compared, two-agree, later-differs, earlier-differs, first-agrees, first-differs, said-stands}
 use borrow.Author.Needs.{needs}
 use Rattle.wordplaces.proofs.place.stands_at.Statement.{statement}
 use Rattle.wordplaces.proofs.place.stands_at.Tie as tie
@@ -33,10 +33,15 @@ returns c =
     (λ t. omega (arith, ltb-true (length w - at) (length b) (t .1 .taken)))
     (c .before .if1 .came)))
 
+eights-left-requires : tie.Need-eights-left-requires Inv-loop μ-loop
+eights-left-requires c κs =
+    let s = c .before .before .before .before in
+    omega (arith, ltb-false (length (s .args .w .now) - s .args .at) (length (s .args .b .now)) (c .if2 .left))
+
 loop-holds : tie.Need-loop-holds Inv-loop μ-loop
 loop-holds c =
-    let s = c .before .before .before .before in
-    none-compared _ _ _ (omega (arith, ltb-false (length (s .args .w .now) - s .args .at) (length (s .args .b .now)) (c .if2 .left)))
+    let s = c .before .before .before .before .before in
+    some-compared _ _ _ (omega (arith, ltb-false (length (s .args .w .now) - s .args .at) (length (s .args .b .now)) (c .before .if2 .left))) _ (c .eights-left .ensures)
 
 sub-k : tie.Need-sub-k Inv-loop μ-loop
 sub-k c = search needs
@@ -129,6 +134,7 @@ stands-at-spec =
     sub-if2
     not-standing-requires
     returns
+    eights-left-requires
     loop-holds
     sub-k
     add-two-same

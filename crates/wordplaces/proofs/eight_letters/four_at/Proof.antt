@@ -1,0 +1,29 @@
+-- `four_at` is the number of four letters.
+use Rattle.wordplaces.proofs.EightLetters.{four-letters}
+use borrow.Author.Needs.{needs}
+use Rattle.wordplaces.proofs.eight_letters.four_at.Statement.{statement}
+use Rattle.wordplaces.proofs.eight_letters.four_at.Tie as tie
+
+two-at-requires : tie.Need-two-at-requires
+two-at-requires c κs = search needs
+
+add-two-at : tie.Need-add-two-at
+add-two-at c = search needs
+
+two-at-requires-2 : tie.Need-two-at-requires-2
+two-at-requires-2 c κs = search needs
+
+mul-result : tie.Need-mul-result
+mul-result c = search needs
+
+add-result : tie.Need-add-result
+add-result c = search needs
+
+returns : tie.Need-returns
+returns c =
+    let first = c .before in
+    four-letters _ _ (first .two-at .result) (c .two-at2 .result) (first .two-at .ensures) (c .two-at2 .ensures)
+
+pub four-at-spec : {M : Type 1} → statement M
+four-at-spec =
+    tie.close (tie.spec two-at-requires add-two-at two-at-requires-2 mul-result add-result returns)
