@@ -4,7 +4,7 @@ use mathlib.Core.List.{List}
 use Prim.Native.Nat.{ℕ, suc, _+_, _<_}
 use native.Mathlib.Numerals.{add-one}
 use native.Mathlib.Omega.{arith}
-use lib.ListN.{length, getD, set, take, drop, length-set, length-drop, take-append-drop}
+use lib.ListN.{length, getD, set, take, drop, length-drop, take-append-drop}
 use lib.Seq.{drop-cons, drop-drop, length-take-le, sets}
 use Rattle.lists.proofs.Stores.{sets-append}
 
@@ -38,53 +38,6 @@ module _ (out b : List ℕ) (o i : ℕ) where
 
   abbrev eight : List ℕ
   eight = set seven (o + 7) (getD b (i + 7) 0)
-
-  -- none of them is longer
-  same-one : length one ≡ length out
-  same-one = length-set out o _
-
-  same-two : length two ≡ length out
-  same-two = length-set one (o + 1) _ ∙ same-one
-
-  same-three : length three ≡ length out
-  same-three = length-set two (o + 2) _ ∙ same-two
-
-  same-four : length four ≡ length out
-  same-four = length-set three (o + 3) _ ∙ same-three
-
-  same-five : length five ≡ length out
-  same-five = length-set four (o + 4) _ ∙ same-four
-
-  same-six : length six ≡ length out
-  same-six = length-set five (o + 5) _ ∙ same-five
-
-  same-seven : length seven ≡ length out
-  same-seven = length-set six (o + 6) _ ∙ same-six
-
-  pub same-eight : length eight ≡ length out
-  same-eight = length-set seven (o + 7) _ ∙ same-seven
-
-  module _ (h : o + 7 < length out) where
-    pub in-one : o + 1 < length one
-    in-one = omega (arith, h, same-one)
-
-    pub in-two : o + 2 < length two
-    in-two = omega (arith, h, same-two)
-
-    pub in-three : o + 3 < length three
-    in-three = omega (arith, h, same-three)
-
-    pub in-four : o + 4 < length four
-    in-four = omega (arith, h, same-four)
-
-    pub in-five : o + 5 < length five
-    in-five = omega (arith, h, same-five)
-
-    pub in-six : o + 6 < length six
-    in-six = omega (arith, h, same-six)
-
-    pub in-seven : o + 7 < length seven
-    in-seven = omega (arith, h, same-seven)
 
   pub eight-stored : i + 7 < length b → eight ≡ sets out o (take 8 (drop i b))
   eight-stored h =

@@ -1,5 +1,6 @@
 -- `put_eight`: eight stores are a run of eight.
-use Rattle.textwriting.proofs.EightStores.{in-one, in-two, in-three, in-four, in-five, in-six, in-seven, same-eight, eight-stored}
+use lib.ListN.{length-set}
+use Rattle.textwriting.proofs.EightStores.{eight-stored}
 use borrow.Author.Needs.{needs}
 use Rattle.textwriting.proofs.write.put_eight.Statement.{statement}
 use Rattle.textwriting.proofs.write.put_eight.Tie as tie
@@ -56,46 +57,46 @@ add-out : tie.Need-add-out
 add-out c = search needs
 
 slice-write-out-2 : tie.Need-slice-write-out-2
-slice-write-out-2 c = let s = c .before .before .before .before .before .before .before .before in in-one (s .args .out .now) (s .args .b .now) (s .args .o) (s .args .i) (s .pre .0)
+slice-write-out-2 c = rw length-set (search needs)
 
 add-out-2 : tie.Need-add-out-2
 add-out-2 c = search needs
 
 slice-write-out-3 : tie.Need-slice-write-out-3
-slice-write-out-3 c = let s = c .before .before .before .before .before .before .before .before in in-two (s .args .out .now) (s .args .b .now) (s .args .o) (s .args .i) (s .pre .0)
+slice-write-out-3 c = rw (length-set, length-set) (search needs)
 
 add-out-3 : tie.Need-add-out-3
 add-out-3 c = search needs
 
 slice-write-out-4 : tie.Need-slice-write-out-4
-slice-write-out-4 c = let s = c .before .before .before .before .before .before .before .before in in-three (s .args .out .now) (s .args .b .now) (s .args .o) (s .args .i) (s .pre .0)
+slice-write-out-4 c = rw (length-set, length-set, length-set) (search needs)
 
 add-out-4 : tie.Need-add-out-4
 add-out-4 c = search needs
 
 slice-write-out-5 : tie.Need-slice-write-out-5
-slice-write-out-5 c = let s = c .before .before .before .before .before .before .before .before in in-four (s .args .out .now) (s .args .b .now) (s .args .o) (s .args .i) (s .pre .0)
+slice-write-out-5 c = rw (length-set, length-set, length-set, length-set) (search needs)
 
 add-out-5 : tie.Need-add-out-5
 add-out-5 c = search needs
 
 slice-write-out-6 : tie.Need-slice-write-out-6
-slice-write-out-6 c = let s = c .before .before .before .before .before .before .before .before in in-five (s .args .out .now) (s .args .b .now) (s .args .o) (s .args .i) (s .pre .0)
+slice-write-out-6 c = rw (length-set, length-set, length-set, length-set, length-set) (search needs)
 
 add-out-6 : tie.Need-add-out-6
 add-out-6 c = search needs
 
 slice-write-out-7 : tie.Need-slice-write-out-7
-slice-write-out-7 c = let s = c .before .before .before .before .before .before .before .before in in-six (s .args .out .now) (s .args .b .now) (s .args .o) (s .args .i) (s .pre .0)
+slice-write-out-7 c = rw (length-set, length-set, length-set, length-set, length-set, length-set) (search needs)
 
 add-out-7 : tie.Need-add-out-7
 add-out-7 c = search needs
 
 slice-write-out-8 : tie.Need-slice-write-out-8
-slice-write-out-8 c = let s = c .before .before .before .before .before .before .before .before in in-seven (s .args .out .now) (s .args .b .now) (s .args .o) (s .args .i) (s .pre .0)
+slice-write-out-8 c = rw (length-set, length-set, length-set, length-set, length-set, length-set, length-set) (search needs)
 
 same-length : tie.Need-same-length
-same-length c = let s = c .before .before .before .before .before .before .before .before in same-eight (s .args .out .now) (s .args .b .now) (s .args .o) (s .args .i)
+same-length c = rw (length-set, length-set, length-set, length-set, length-set, length-set, length-set, length-set)
 
 returns : tie.Need-returns
 returns c = eight-stored _ _ _ _ (c .before .before .before .before .before .before .before .before .pre .1)
