@@ -50,6 +50,17 @@ same-sums : {p q : ℕ} {rs ts ps qs : List Poly} {xs ys : List SumLine} → p �
     → sumsVerdict (fieldOf p) wordOrder rs ps xs ≡ sumsVerdict (fieldOf q) wordOrder ts qs ys
 same-sums e f g h = rw (e, f, g, h)
 
+-- The table holds the head and the polynomials that lie in the slices, and no basis polynomial is zero.
+pub record TableHolds (bytes cs os ls fs : List ℕ) (h : Head) (t : List ℕ) : Type 0 where
+  pub tabled : Tabled t
+  pub prime : primeIn t ≡ h .p
+  pub letters : lettersIn t ≡ h .letters
+  pub gens : gensIn t ≡ h .gens
+  pub count : basisCountIn t ≡ h .basis
+  pub relations : relationsIn t ≡ familyAt cs os ls bytes fs 1 (h .gens)
+  pub basis : basisIn t ≡ familyAt cs os ls bytes fs (h .gens + 1) (h .basis)
+  pub sound : basisJudged (familyAt cs os ls bytes fs (h .gens + 1) (h .basis)) ≡ fine
+
 module _ {bytes cs os ls fs : List ℕ} {h : Head} {m at n : ℕ} (r : PackageRead bytes cs os ls fs h m at n) where
   abbrev P : Package
   P = r .whole
@@ -73,16 +84,18 @@ module _ {bytes cs os ls fs : List ℕ} {h : Head} {m at n : ℕ} (r : PackageRe
   unsound-refused a b q = judged (refusal a b) (then-refused (basisJudged (basis P)) sums a b (rw (r .basis) at q))
 
   -- The table holds the package.
-  module _ {t : List ℕ} (T : Tabled t) (p : primeIn t ≡ h .p) (l : lettersIn t ≡ h .letters) (g : gensIn t ≡ h .gens) (b : basisCountIn t ≡ h .basis)
-      (rs : relationsIn t ≡ familyAt cs os ls bytes fs 1 (h .gens)) (ps : basisIn t ≡ polys) (sound : basisJudged polys ≡ fine) where
+  module _ {t : List ℕ} (T : TableHolds bytes cs os ls fs h t) where
     head-is : headIn t ≡ h
-    head-is = rw (p, l, g, b)
+    head-is = rw (T .prime, T .letters, T .gens, T .count)
+
+    relations-are : relationsIn t ≡ relations P
+    relations-are = T .relations ∙ r .relations
 
     basis-is : basisIn t ≡ basis P
-    basis-is = ps ∙ r .basis
+    basis-is = T .basis ∙ r .basis
 
     fine-basis : basisJudged (basis P) ≡ fine
-    fine-basis = rw (r .basis) at sound
+    fine-basis = rw (r .basis) at (T .sound)
 
     -- What the check asks.
     pub begins-in : SumsStart (headIn t) bytes at n
@@ -90,8 +103,8 @@ module _ {bytes cs os ls fs : List ℕ} {h : Head} {m at n : ℕ} (r : PackageRe
 
     pub heads-in : (heads headlens : List ℕ) → HeadsOf cs os ls bytes fs (h .gens + 1) (h .basis) heads headlens → HeadsIn t heads headlens bytes
     heads-in heads headlens H = record {
-      laid = rw b (H .laid);
-      leading = ap (laidWords heads headlens bytes) b ∙ H .leading ∙ ap leads (sym ps);
+      laid = rw (T .count) (H .laid);
+      leading = ap (laidWords heads headlens bytes) (T .count) ∙ H .leading ∙ ap leads (sym (T .basis));
     }
 
     -- What it answers.
@@ -100,7 +113,7 @@ module _ {bytes cs os ls fs : List ℕ} {h : Head} {m at n : ℕ} (r : PackageRe
 
     verdict-is : verdict ≡ thenJudge (basisJudged (basis P)) sums
     verdict-is =
-        same-sums (p ∙ ap (λ (k : Head). k .p) (sym (r .head))) (rs ∙ r .relations) basis-is (r .sums)
+        same-sums (T .prime ∙ ap (λ (k : Head). k .p) (sym (r .head))) relations-are basis-is (r .sums)
         ∙ sym (then-fine (basisJudged (basis P)) sums fine-basis)
 
     -- What the check rejects is refused.
@@ -124,9 +137,9 @@ module _ {bytes cs os ls fs : List ℕ} {h : Head} {m at n : ℕ} (r : PackageRe
             whole = P;
             accepted = judged fine (sym verdict-is ∙ z);
             readable = readable;
-            tabled = T;
+            tabled = T .tabled;
             head = r .head ∙ sym head-is;
-            relations = rs ∙ r .relations;
+            relations = relations-are;
             basis = basis-is;
           },
           ap placeOf q,

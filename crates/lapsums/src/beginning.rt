@@ -23,8 +23,8 @@ ghost use Rattle.tablesums.specs.Factors.{Lapping};
 ghost use Rattle.tablesums.specs.ShortWords.{ShortWord};
 ghost use Rattle.lapsums.specs.LapWord.{LapWord};
 
-// The overlap word of a pair is built in lap where it is wanted: rest is what of its second leading word stands behind the first, of size b. The
-// answer is the word's size.
+// The overlap word of a pair is built in lap where it is wanted, and else lap is scratch: rest is what of the pair's second leading word stands behind the
+// first, of size b. The answer is the word's size.
 fn word_wanted(
     t: &Table,
     f: PairAt,
@@ -43,7 +43,7 @@ fn word_wanted(
     overlap_word(t, f, rest, b, lap)
 }
 
-// The overlap word of f is built in lap where it is wanted, and its difference becomes the working formula.
+// The overlap word of f is built in lap where it is wanted, and else lap is scratch; f's difference becomes the working formula.
 pub fn start_lap(
     t: &Table,
     f: PairAt,

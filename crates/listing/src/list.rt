@@ -29,7 +29,7 @@ fn refusal(number: u64, place: u64) -> Listed
     }
 }
 
-// The list of the pairs of n words that lie in the bytes. Its first pairs are kept between the two walks.
+// The list of the pairs of n words that lie in the bytes. kept is scratch: the list's first pairs are kept there between the two walks.
 fn list_words(
     heads: &[usize],
     headlens: &[usize],
@@ -56,8 +56,8 @@ fn list_words(
     }
 }
 
-// Refusal 8 for the count polynomials of a basis that was read, and the list where there is none. The places of the terms' words are not
-// asked for again behind the leading words: pairs of the list are kept there.
+// Refusal 8 for the count polynomials of a basis that was read, and the list where there is none. Once the leading words are known, nothing
+// asks for the places of the terms' words, and starts is scratch.
 fn list_basis(
     coefs: &[u32],
     starts: &mut [u32],

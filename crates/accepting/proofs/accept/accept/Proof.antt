@@ -7,7 +7,7 @@ use Rattle.acceptance.proofs.FirstZero.{fine-nonzero}
 use Rattle.basis.proofs.BasisAnswers.{basis-refused, basis-sound, heads-sound}
 use Rattle.accepting.specs.Accepted.{Accepts}
 use Rattle.accepting.proofs.PackageRead.{PackageRead, answered, unread-refused}
-use Rattle.accepting.proofs.PackageTable.{unsound-refused, begins-in, heads-in, rejected-refused, accepted-taken}
+use Rattle.accepting.proofs.PackageTable.{TableHolds, unsound-refused, begins-in, heads-in, rejected-refused, accepted-taken}
 use borrow.Author.Needs.{needs}
 use Rattle.accepting.proofs.accept.accept.Statement.{statement}
 use Rattle.accepting.proofs.accept.accept.Tie as tie
@@ -39,6 +39,24 @@ is-read b =
     let ll : length (w .last .1 .1 .1 .1 .1 .0) ≡ 1024 = omega (arith, w .kept .1 .1 .1 .1 .1 .0) in
     let lf : length (w .last .1 .1 .1 .1 .1 .1 .0) ≡ 98 = omega (arith, w .kept .1 .1 .1 .1 .1 .1 .0) in
     answered _ (w .last .1 .0) (w .last .1 .1 .0) _ _ _ _ _ _ _ _ _ (v .1) (t .0) (t .1 .0) (t .1 .1 .0) (t .1 .1 .1 .0) (t .1 .1 .1 .1) lc lo ll lf
+
+-- the table that was filled holds it
+holds : (f : tie.After-tabulate)
+    → let b = whole (judged f) in
+    TableHolds (begun (was-read b) .args .«package» .now) (was-read b .read-package .last .1 .1 .1 .0) (was-read b .read-package .last .1 .1 .1 .1 .0)
+    (was-read b .read-package .last .1 .1 .1 .1 .1 .0) (was-read b .read-package .last .1 .1 .1 .1 .1 .1 .0) (b .r2 .given .0 .0) (f .tabulate .last .0)
+holds f =
+    let e = f .tabulate .ensures in
+    record {
+      tabled = e .0;
+      prime = e .1 .0 .0;
+      letters = e .1 .0 .1;
+      gens = e .1 .1 .0 .0;
+      count = e .1 .1 .0 .1;
+      relations = e .1 .1 .1 .0;
+      basis = e .1 .1 .1 .1;
+      sound = basis-sound _ _ (judged f .judge-basis .ensures .0) (f .before .before .before .before .before .before .enum-told .given .1);
+    }
 
 slice-aggregate-read-package : tie.Need-slice-aggregate-read-package
 slice-aggregate-read-package c = search needs
@@ -139,18 +157,9 @@ check-requires : tie.Need-check-requires
 check-requires c κs =
     let f = c .before .before .before .before .before .before .before in
     let j = judged f in
-    let e = f .tabulate .ensures in
-    let none = f .before .before .before .before .before .before .enum-told .given .1 in
-    let sound = basis-sound _ _ (j .judge-basis .ensures .0) none in
-    let heads = heads-sound _ _ _ _ _ _ _ _ _ _ (j .judge-basis .ensures .1) none in
+    let heads = heads-sound _ _ _ _ _ _ _ _ _ _ (j .judge-basis .ensures .1) (f .before .before .before .before .before .before .enum-told .given .1) in
     let r = is-read (whole j) in
-    let p = e .1 .0 in
-    let q = e .1 .1 .0 in
-    let rs = e .1 .1 .1 .0 in
-    let ps = e .1 .1 .1 .1 in (
-      (e .0, heads-in r (e .0) (p .0) (p .1) (q .0) (q .1) rs ps sound _ _ heads),
-      (begins-in r (e .0) (p .0) (p .1) (q .0) (q .1) rs ps sound, begun (was-read (whole j)) .pre .1),
-    )
+    ((holds f .tabled, heads-in r (holds f) _ _ heads), (begins-in r (holds f), begun (was-read (whole j)) .pre .1))
 
 enum-known-s : tie.Need-enum-known-s
 enum-known-s c = search needs
@@ -170,26 +179,14 @@ unfolding Accepts
 returns-3 c =
     let h = c .before .before .before in
     let f = h .before .before .before .before .before .before .before .before in
-    let j = judged f in
-    let e = f .tabulate .ensures in
-    let p = e .1 .0 in
-    let q = e .1 .1 .0 in
-    let sound = basis-sound _ _ (j .judge-basis .ensures .0) (f .before .before .before .before .before .before .enum-told .given .1) in
-    let said = rejected-refused (is-read (whole j)) (e .0) (p .0) (p .1) (q .0) (q .1) (e .1 .1 .1 .0) (e .1 .1 .1 .1) sound _ _ _ (rw (c .before .s .given .1) at (h .check .ensures .0)) in
-    (said, h .check .ensures .1)
+    (rejected-refused (is-read (whole (judged f))) (holds f) _ _ _ (rw (c .before .s .given .1) at (h .check .ensures .0)), h .check .ensures .1)
 
 returns-4 : tie.Need-returns-4
 unfolding Accepts
 returns-4 c =
     let h = c .before .before .before in
     let f = h .before .before .before .before .before .before .before .before in
-    let j = judged f in
-    let e = f .tabulate .ensures in
-    let p = e .1 .0 in
-    let q = e .1 .1 .0 in
-    let sound = basis-sound _ _ (j .judge-basis .ensures .0) (f .before .before .before .before .before .before .enum-told .given .1) in
-    let said = accepted-taken (is-read (whole j)) (e .0) (p .0) (p .1) (q .0) (q .1) (e .1 .1 .1 .0) (e .1 .1 .1 .1) sound _ _ (rw (c .before .s2 .given .1) at (h .check .ensures .0)) in
-    (said, h .check .ensures .1)
+    (accepted-taken (is-read (whole (judged f))) (holds f) _ _ (rw (c .before .s2 .given .1) at (h .check .ensures .0)), h .check .ensures .1)
 
 pub accept-spec : {M : Type 1} → statement M
 accept-spec =
