@@ -104,7 +104,7 @@ guard: $(LIBRARY) $(TRIALS)
 	@echo '== buffers of exact length'
 	@mkdir -p target/guard
 	@$(CC) -std=c11 -Wall -Wextra -O1 -g -fsanitize=address,undefined -Iinclude tests/c/guard.c $(LIBRARY) $(TRIALS) -o target/guard/guard
-	@$(ORACLE) --inputs 40000 --write-cases target/guard/cases >target/guard/log || { cat target/guard/log; exit 1; }
+	@$(ORACLE) --inputs 35000 --write-cases target/guard/cases >target/guard/log || { cat target/guard/log; exit 1; }
 	@target/guard/guard target/guard/cases
 
 differential: $(LIBRARY) $(TRIALS)
@@ -119,7 +119,7 @@ soak: $(LIBRARY) $(TRIALS)
 
 stack: $(LIBRARY)
 	@$(CC) $(CFLAGS) -Iinclude -Itools/vaultgarlic bench/stack.c tools/vaultgarlic/input.c tools/vaultgarlic/show.c $(LIBRARY) -o target/stack
-	@target/stack examples/*.pkg examples/*/*.pkg -- examples/*.formula examples/formulas/*.formula
+	@target/stack examples/*.pkg examples/refused/*.pkg -- examples/*.formula examples/formulas/*.formula
 
 LOG ?= target/gate.log
 

@@ -17,7 +17,6 @@ mod random;
 mod single_words;
 mod tables;
 mod timing;
-mod two_houses;
 mod untrimmed;
 
 use inputs::Named;
@@ -38,7 +37,6 @@ fn main() {
     let mut packages = inputs::packages();
     packages.push(Named { name: "near every bound".into(), bytes: near_bounds::package(65_521, 31, 65_536) });
     packages.push(Named { name: "untrimmed".into(), bytes: untrimmed::package() });
-    packages.push(Named { name: two_houses::NAME.into(), bytes: two_houses::package(&packages) });
     let words = [
         Named { name: "many overlaps".into(), bytes: many_overlaps::package() },
         Named { name: "many inclusions".into(), bytes: many_inclusions::package() },
@@ -51,10 +49,7 @@ fn main() {
         letters::table(packages.iter().chain(&words));
     }
     if wanted("formulas") {
-        tables::formulas(effort, &packages, |package| match package {
-            two_houses::NAME => two_houses::formulas(&packages),
-            _ => inputs::stored_formulas(package),
-        });
+        tables::formulas(effort, &packages, inputs::stored_formulas);
     }
     if wanted("bytes") {
         tables::growing_packages(effort);

@@ -12,9 +12,6 @@ EXAMPLES = os.path.join(ROOT, "examples")
 with open(os.path.join(EXAMPLES, "e.pkg"), "rb") as file:
     E = file.read()
 E_LINES = E.split(b"\n")[:-1]
-with open(os.path.join(EXAMPLES, "houses", "e_houses.pkg"), "rb") as file:
-    HOUSES = file.read()
-HOUSE_LINES = HOUSES.split(b"\n")[:-1]
 LIST_NAMES = b"item first second shared at word\n"
 E_LIST = LIST_NAMES + b"1 1 1 1 1 aaa\n2 1 2 1 1 aab\n"
 
@@ -26,11 +23,6 @@ def text(lines):
 def with_line(number, *put):
     """E with the line of that number replaced by those put; line 18 is behind the last."""
     return text(E_LINES[: number - 1] + list(put) + E_LINES[number:])
-
-
-def with_house_line(number, *put):
-    """The package of two houses with the line of that number replaced by those put; line 24 is behind the last."""
-    return text(HOUSE_LINES[: number - 1] + list(put) + HOUSE_LINES[number:])
 
 
 def formula(*terms):
@@ -91,20 +83,3 @@ class Command(unittest.TestCase):
         self.assertEqual((status, out or b""), (2, b""))
         self.assertTrue(told.startswith(b"vaultgarlic: ") and told.endswith(b"\n"), told)
         self.assertIn(words, told)
-
-
-class Packages(Command):
-    """A case about refused packages."""
-
-    def told(self, content, where, number, words, *shown):
-        """Check and the formula services tell the same; so does listing for 1 to 8."""
-        self.put("any.pkg", content)
-        self.put("zero", formula())
-        expected = ["vaultgarlic: any.pkg%s: refused %d: %s" % (where, number, words)] + list(shown)
-        self.refuses(expected, "check", "any.pkg")
-        self.refuses(expected, "short", "any.pkg", "zero")
-        self.refuses(expected, "member", "any.pkg", "zero")
-        if number < 9:
-            self.refuses(expected, "overlaps", "any.pkg")
-        else:
-            self.assertEqual(self.run_command("overlaps", "any.pkg")[0], 0)

@@ -5,7 +5,7 @@ import re
 import subprocess
 import unittest
 
-from support import COMMAND, E_LINES, HOUSE_LINES, ROOT
+from support import COMMAND, E_LINES, ROOT
 
 
 def sessions(document):
@@ -42,27 +42,11 @@ class Documents(unittest.TestCase):
                     count += self.compare(file.read())
         self.assertGreaterEqual(count, 5)
 
-    def section_of_format(self, title):
-        with open(os.path.join(ROOT, "docs", "FORMAT.md"), encoding="utf-8") as file:
-            return re.search(r"^## %s\n(.*?)^## " % title, file.read(), re.M | re.S)[1]
-
-    def explained(self, section):
-        """The lines of a package that a table explains, each with its number."""
-        rows = re.findall(r"^\| (\d+) \| `([^`]*)` \| [A-Z.]", section, re.M)
-        return [(int(number), line.encode()) for number, line in rows]
-
     def test_the_package_explained_in_format(self):
-        rows = self.explained(self.section_of_format("A package, line by line"))
-        self.assertEqual(rows, list(enumerate(E_LINES, 1)))
-
-    def test_the_package_of_two_houses_explained_in_format(self):
-        section = self.section_of_format("A second house")
-        whole = re.search(r"^    p letters gens others basis\n(?:    .*\n)*", section, re.M)[0]
-        self.assertEqual([line[4:].encode() for line in whole.split("\n")[:-1]], HOUSE_LINES)
-        rows = self.explained(section)
-        self.assertEqual(rows, [(number, HOUSE_LINES[number - 1]) for number, _ in rows])
-        new = {number for number, _ in rows}
-        self.assertEqual([line for number, line in enumerate(HOUSE_LINES, 1) if number not in new], E_LINES[2:])
+        with open(os.path.join(ROOT, "docs", "FORMAT.md"), encoding="utf-8") as file:
+            rows = re.findall(r"^\| (\d+) \| `([^`]*)` \| [A-Z.]", file.read(), re.M)
+        self.assertEqual([int(number) for number, _ in rows], list(range(1, len(E_LINES) + 1)))
+        self.assertEqual([line.encode() for _, line in rows], E_LINES)
 
     def test_the_pairs_explained_in_format(self):
         package = os.path.join(ROOT, "examples", "untrimmed", "e_untrimmed.pkg")

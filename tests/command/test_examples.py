@@ -11,16 +11,13 @@ from support import COMMAND, EXAMPLES, run
 
 # Number and place of each refusal: 01's table 'Numbers and places', where the input is one of that table's. Lines of 07 and 10: three lines
 # above the terms, so the 49th is line 52; 48 + 1 terms, the names line 53, so the eleventh sum line is line 64. 08 has three basis polynomials
-# by line 2, and terms of two. The second of 13 and of 14 are wrong in pair 7, an inclusion, whose first O line is line 28. 28, 29 and the second
-# of 02 and of 04 are the package of two houses: without line 18 of C 2, without line 20 of H 1, with lines 1 and 2 of E, with 0 for others.
+# by line 2, and terms of two. The second of 13 and of 14 are wrong in pair 7, an inclusion, whose first O line is line 28.
 REFUSED = {
     "01-too-long": (1, 0),
     "02-shape": (2, 1),
-    "02-old-line-1": (2, 6),
     "03-not-prime": (3, 2),
     "03-power-of-two": (3, 2),
     "04-counts": (4, 2),
-    "04-no-others": (4, 2),
     "05-bounds": (5, 4),
     "06-order": (6, 5),
     "07-too-many-terms": (7, 52),
@@ -33,14 +30,12 @@ REFUSED = {
     "14-not-below": (14, 15),
     "14-inclusion-not-below": (14, 28),
     "15-no-overlap": (15, 18),
-    "28-other-basis-sum": (28, 2),
-    "29-other-relation-sum": (29, 1),
     "singular-moore-penrose": (11, 1),
 }
 
 # The place as the message has it: behind the file's name, or in the words.
 LINE = r"\A[^\n]*%s\.pkg:(\d+): refused (\d+): "
-ITEM = r"\A[^\n]*%s\.pkg: refused (\d+): [^\n]*?\b(?:[BGH]|overlap) (\d+)\b"
+ITEM = r"\A[^\n]*%s\.pkg: refused (\d+): [^\n]*?\b(?:[BG]|overlap) (\d+)\b"
 
 
 def content(path):
@@ -61,7 +56,7 @@ class Refused(unittest.TestCase):
         if number == 1:
             self.assertRegex(told, r"\A[^\n]*%s\.pkg: refused 1: " % name)
             return 0
-        if number in (8, 11, 12, 13, 28, 29):
+        if number in (8, 11, 12, 13):
             found = re.search(ITEM % name, told)
             self.assertIsNotNone(found, told)
             self.assertEqual(int(found.group(1)), number)
@@ -80,7 +75,7 @@ class Refused(unittest.TestCase):
                 self.assertEqual(self.place(name, number, told.decode("ascii")), place)
 
     def test_every_number_has_one(self):
-        self.assertEqual({number for number, _ in REFUSED.values()}, set(range(1, 16)) - {9} | {28, 29})
+        self.assertEqual({number for number, _ in REFUSED.values()}, set(range(1, 16)) - {9})
 
     def test_every_package_is_in_the_table(self):
         names = {os.path.basename(path)[:-4] for path in glob.glob(os.path.join(self.refused, "*.pkg"))}
@@ -107,13 +102,6 @@ class Refused(unittest.TestCase):
         self.assertEqual(content(os.path.join(self.refused, "14-inclusion-not-below.pkg")).split(b"\n"),
                          right[:27] + [b"O 7 1 - 3 -", b"O 7 6 a 2 -"] + right[29:])
 
-    def test_wrong_packages_of_two_houses_differ_from_the_right_one_in_a_line(self):
-        right = content(os.path.join(EXAMPLES, "houses", "e_houses.pkg")).split(b"\n")
-        for name, wrong in (("28-other-basis-sum", right[:17] + right[18:]), ("29-other-relation-sum", right[:19] + right[20:]),
-                            ("04-no-others", [right[0], b"7 2 1 0 2"] + right[2:]),
-                            ("02-old-line-1", [b"p letters gens basis", b"7 2 1 2"] + right[2:])):
-            self.assertEqual(content(os.path.join(self.refused, name + ".pkg")).split(b"\n"), wrong)
-
     def test_singular_differs_from_the_right_package_in_one_line(self):
         wrong = content(os.path.join(self.refused, "singular-moore-penrose.pkg")).split(b"\n")
         right = content(os.path.join(EXAMPLES, "mp_unique.pkg")).split(b"\n")
@@ -123,8 +111,8 @@ class Refused(unittest.TestCase):
 
 class Accepted(unittest.TestCase):
     def test_packages(self):
-        packages = [path for folder in ("", "scaled", "untrimmed", "houses") for path in sorted(glob.glob(os.path.join(EXAMPLES, folder, "*.pkg")))]
-        self.assertEqual(len(packages), 14)
+        packages = [path for folder in ("", "scaled", "untrimmed") for path in sorted(glob.glob(os.path.join(EXAMPLES, folder, "*.pkg")))]
+        self.assertEqual(len(packages), 12)
         for package in packages:
             with self.subTest(os.path.basename(package)):
                 status, out, told = run(COMMAND, "check", package)
@@ -207,66 +195,6 @@ class Untrimmed(unittest.TestCase):
         rows = [line.split(b" ") for line in run(COMMAND, "overlaps", os.path.join(EXAMPLES, name))[1].split(b"\n")[1:-1]]
         inside = [row[5] == leads[row[1]] for row in rows]
         self.assertEqual(inside, [False] * 106 + [True] * 24)
-
-
-def relations(name, kind):
-    """The relations of a kind in a package, each as a formula."""
-    terms = {}
-    for line in block(name, kind, 4):
-        item, rest = line.split(b" ", 1)
-        terms.setdefault(item, []).append(rest)
-    return [b"coef word\n" + b"".join(term + b"\n" for term in of) for of in terms.values()]
-
-
-class Houses(unittest.TestCase):
-    """houses/e_houses.pkg and houses/mp_unique_houses.pkg have the lines of e.pkg and of mp_unique.pkg, and those of a second house."""
-
-    pairs = (("houses/e_houses.pkg", "e.pkg", b"1", "e-*"), ("houses/mp_unique_houses.pkg", "mp_unique.pkg", b"8", "mp_unique-*"))
-
-    def test_lines(self):
-        for houses, one, others, _ in self.pairs:
-            first, counts, *lines = content(os.path.join(EXAMPLES, houses)).split(b"\n")
-            self.assertEqual(first, b"p letters gens others basis")
-            p, letters, gens, number, basis = counts.split(b" ")
-            self.assertEqual(number, others)
-            expected = [b"p letters gens basis", b" ".join((p, letters, gens, basis))] + [line for line in lines if line[:2] not in (b"C ", b"H ")]
-            self.assertEqual(content(os.path.join(EXAMPLES, one)).split(b"\n"), expected)
-
-    def test_every_answer_is_that_of_one_house(self):
-        for houses, one, _, pattern in self.pairs:
-            houses, one = os.path.join(EXAMPLES, houses), os.path.join(EXAMPLES, one)
-            for service in ("check", "overlaps"):
-                self.assertEqual(run(COMMAND, service, houses), run(COMMAND, service, one))
-            for formula in glob.glob(os.path.join(EXAMPLES, "formulas", pattern + ".formula")):
-                for service in ("short", "member"):
-                    with self.subTest(service + " " + os.path.basename(formula)):
-                        answer = run(COMMAND, service, "--steps", houses, formula)
-                        self.assertEqual(answer[0], 0)
-                        self.assertEqual(answer, run(COMMAND, service, "--steps", one, formula))
-
-    def test_relations_of_the_second_house_are_members_with_the_first_alone(self):
-        for houses, one, others, _ in self.pairs:
-            second = relations(houses, b"H")
-            self.assertEqual(len(second), int(others))
-            for relation in second + relations(houses, b"G"):
-                self.assertEqual(run(COMMAND, "member", os.path.join(EXAMPLES, one), "-", stdin=relation), (0, b"yes\n", b""))
-
-    def exchanged(self, name):
-        """The package with its houses exchanged."""
-        lines = content(os.path.join(EXAMPLES, name)).split(b"\n")[:-1]
-        p, letters, gens, others, basis = lines[1].split(b" ")
-        between = lines.index(b"kind item coef left of right")
-        of = {kind: [line[1:] for line in lines[3:between] if line[:1] == kind] for kind in (b"G", b"H", b"B")}
-        sums = {kind: [line[1:] for line in lines[between:] if line[:2] == kind + b" "] for kind in (b"B", b"C", b"G", b"H", b"O")}
-        put = [kind + line for kind, was in ((b"G", b"H"), (b"H", b"G"), (b"B", b"B")) for line in of[was]] + [lines[between]]
-        put += [kind + line for kind, was in ((b"B", b"C"), (b"C", b"B"), (b"G", b"H"), (b"H", b"G"), (b"O", b"O")) for line in sums[was]]
-        return b"".join(line + b"\n" for line in [lines[0], b" ".join((p, letters, others, gens, basis)), lines[2]] + put)
-
-    def test_the_houses_exchanged(self):
-        for houses, one, *_ in self.pairs:
-            exchanged = self.exchanged(houses)
-            self.assertNotEqual(exchanged, content(os.path.join(EXAMPLES, houses)))
-            self.assertEqual(run(COMMAND, "check", "-", stdin=exchanged), run(COMMAND, "check", os.path.join(EXAMPLES, one)))
 
 
 class Formulas(unittest.TestCase):

@@ -16,8 +16,7 @@ class Options(Command):
     def test_help(self):
         status, out, told = self.run_command("--help")
         self.assertEqual((status, told), (0, b""))
-        for word in (b"check", b"overlaps", b"short", b"member", b"--budget N", b"--steps", b"--help", b"--version", b"Exit status: 0",
-                     b"two houses", b"1 to 18, 28 or 29"):
+        for word in (b"check", b"overlaps", b"short", b"member", b"--budget N", b"--steps", b"--help", b"--version", b"Exit status: 0"):
             self.assertIn(word, out)
         self.assertLessEqual(max(len(line) for line in out.split(b"\n")), 96)
 

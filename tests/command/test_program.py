@@ -3,7 +3,7 @@ import glob
 import os
 import unittest
 
-from support import COMMAND, E, E_LIST, EXAMPLES, HOUSES, LIST_NAMES, PROGRAM, many_overlaps, monomials, run, with_house_line, with_line
+from support import COMMAND, E, E_LIST, EXAMPLES, LIST_NAMES, PROGRAM, many_overlaps, monomials, run, with_line
 
 
 class Program(unittest.TestCase):
@@ -19,14 +19,6 @@ class Program(unittest.TestCase):
     def test_list_of_a_basis_that_is_not_trimmed(self):
         self.prints(LIST_NAMES + b"1 1 1 1 1 aaa\n2 1 2 1 1 aaab\n3 2 1 2 0 aab\n", with_line(8, b"B 2 1 aab"))
         self.prints(LIST_NAMES + b"1 1 2 0 0 -\n", monomials(b"-", b"-"))
-
-    def test_list_with_a_second_house(self):
-        self.prints(E_LIST, HOUSES)
-        # Its sums are not judged; its lines are read.
-        self.prints(E_LIST, with_house_line(16))
-        self.prints(b"refused 4 2\n", with_house_line(2, b"7 2 1 0 2"))
-        self.prints(b"refused 5 16\n", with_house_line(16, b"C 1 4 - 2 -"))
-        self.prints(b"refused 2 6\n", with_line(6, b"H 1 2 aa"))
 
     def test_refused(self):
         self.prints(b"refused 3 2\n", with_line(2, b"9 2 1 2"))
@@ -47,8 +39,8 @@ class Program(unittest.TestCase):
         self.prints(b"refused 19 263477\n", many_overlaps())
 
     def test_the_command_prints_the_same(self):
-        packages = [path for folder in ("", "scaled", "untrimmed", "houses") for path in glob.glob(os.path.join(EXAMPLES, folder, "*.pkg"))]
-        self.assertEqual(len(packages), 14)
+        packages = [path for folder in ("", "scaled", "untrimmed") for path in glob.glob(os.path.join(EXAMPLES, folder, "*.pkg"))]
+        self.assertEqual(len(packages), 12)
         for package in packages:
             with self.subTest(os.path.basename(package)), open(package, "rb") as file:
                 listed = run(COMMAND, "overlaps", package)

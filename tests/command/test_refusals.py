@@ -1,12 +1,9 @@
-"""How each refusal is told. Numbers and places are those of document 01 and of its readings in docs/DECISIONS.md. Packages of two houses are in
-test_houses.py."""
+"""How each refusal is told. Numbers and places are those of document 01 and of its readings in docs/DECISIONS.md."""
 import os
 
-from support import Command, E, E_LINES, EXAMPLES, Packages, formula, text, with_line
+from support import Command, E, E_LINES, EXAMPLES, formula, text, with_line
 
 TERM = "the line has the wrong shape; it must be `G item coef word`, or B for G, or the names line `kind item coef left of right`"
-SUM = "the line has the wrong shape; it must be `B item coef left of right`, or G or O for B"
-HOUSE = "      | kind %s is for a second house; line 1 is then `p letters gens others basis`"
 BOUNDS = "a coefficient, letter, word length, item or `of` is out of bounds"
 HERE = "      | bounds here: coef 1 to 6; letters a to b, 24 in a word; G 1 to 1; B 1 to 2"
 NOT_BELOW = "left, the leading word of `of` and right make a word that is not below the overlap word"
@@ -19,7 +16,20 @@ def untrimmed():
         return file.read().split(b"\n")[:-1]
 
 
-class OfPackages(Packages):
+class OfPackages(Command):
+    def told(self, content, where, number, words, *shown):
+        """Check and the formula services tell the same; so does listing for 1 to 8."""
+        self.put("any.pkg", content)
+        self.put("zero", formula())
+        expected = ["vaultgarlic: any.pkg%s: refused %d: %s" % (where, number, words)] + list(shown)
+        self.refuses(expected, "check", "any.pkg")
+        self.refuses(expected, "short", "any.pkg", "zero")
+        self.refuses(expected, "member", "any.pkg", "zero")
+        if number < 9:
+            self.refuses(expected, "overlaps", "any.pkg")
+        else:
+            self.assertEqual(self.run_command("overlaps", "any.pkg")[0], 0)
+
     def test_1(self):
         self.told(b"x" * 65537, "", 1, "a package has at most 65536 bytes, this file has 65537")
         self.told(b"x" * 100000, "", 1, "a package has at most 65536 bytes, this file has 100000")
@@ -33,28 +43,19 @@ class OfPackages(Packages):
 
     def test_2_wrong(self):
         shape = "the line has the wrong shape; it must be "
-        line_1 = "`p letters gens basis`, or `p letters gens others basis` with a second house"
-        self.told(with_line(1, b"p letters basis gens"), ":1", 2, shape + line_1, "    1 | p letters basis gens")
+        self.told(with_line(1, b"p letters basis gens"), ":1", 2, shape + "`p letters gens basis`", "    1 | p letters basis gens")
         self.told(with_line(2, b"07 2 1 2"), ":2", 2, shape + "four numbers: p, letters, gens, basis", "    2 | 07 2 1 2")
         self.told(with_line(3, b"7 2 1 2"), ":3", 2, shape + "`kind item coef word`", "    3 | 7 2 1 2")
         self.told(with_line(4, b"O 1 1 aa"), ":4", 2, TERM, "    4 | O 1 1 aa")
-        self.told(with_line(15, b"X 1 1 - 2 -"), ":15", 2, SUM, "   15 | X 1 1 - 2 -")
-        self.told(E + b"\n", ":18", 2, SUM, "   18 | ")
-
-    def test_2_of_kinds_that_are_for_a_second_house(self):
-        self.told(with_line(15, b"C 1 1 - 2 -"), ":15", 2, SUM, "   15 | C 1 1 - 2 -", HOUSE % "C")
-        self.told(with_line(15, b"H 1 1 - 2 -"), ":15", 2, SUM, "   15 | H 1 1 - 2 -", HOUSE % "H")
-        self.told(with_line(6, b"H 1 1 aa"), ":6", 2, TERM, "    6 | H 1 1 aa", HOUSE % "H")
-        # C is no kind of terms, whatever line 1 is.
-        self.told(with_line(6, b"C 1 1 aa"), ":6", 2, TERM, "    6 | C 1 1 aa")
+        self.told(with_line(15, b"C 1 1 - 2 -"), ":15", 2, shape + "`B item coef left of right`, or G or O for B", "   15 | C 1 1 - 2 -")
+        self.told(E + b"\n", ":18", 2, shape + "`B item coef left of right`, or G or O for B", "   18 | ")
 
     def test_2_unfinished(self):
-        self.told(E[:-1], ":17", 2, SUM.replace("has the wrong shape", "is unfinished: no newline ends it"),
+        self.told(E[:-1], ":17", 2, "the line is unfinished: no newline ends it; it must be `B item coef left of right`, or G or O for B",
                   "   17 | O 2 1 b 1 - (unfinished)")
 
     def test_2_missing(self):
-        self.told(b"", ":1", 2, "the line is missing; it must be `p letters gens basis`, or `p letters gens others basis` with a second house",
-                  "    1 | (missing)")
+        self.told(b"", ":1", 2, "the line is missing; it must be `p letters gens basis`", "    1 | (missing)")
         self.told(text(E_LINES[:9]), ":10", 2, TERM.replace("has the wrong shape", "is missing"), "   10 | (missing)")
 
     def test_3(self):

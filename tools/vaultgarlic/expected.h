@@ -12,12 +12,6 @@ const char *expected_shape(const input *package, uint64_t number);
 /* The order of the lines of the block in which that line is. */
 const char *expected_order(const input *package, uint64_t number);
 
-/* The bounds of the counts in line 2, in words. */
-const char *expected_counts(const input *package);
-
-/* Below a line of kind C or H, in a package whose line 1 has no second house: a remark that says which line 1 has one. */
-void show_house_needed(const input *package, uint64_t number);
-
 /* Shows the bounds of coefficients, letters and items that line 2 sets, as a remark under a line. */
 void show_bounds(const input *package);
 

@@ -78,7 +78,7 @@ static void tell_line(const input *package, uint64_t number, uint64_t place)
         fputs("p is neither a prime from 2 to 65521 nor 256\n", stderr);
         break;
     case VG_COUNTS:
-        fprintf(stderr, "%s\n", expected_counts(package));
+        fputs("letters must be 1 to 26, gens 0 to 32, basis 0 to 64\n", stderr);
         break;
     case VG_BOUNDS:
         fputs("a coefficient, letter, word length, item or `of` is out of bounds\n", stderr);
@@ -103,21 +103,11 @@ static void tell_line(const input *package, uint64_t number, uint64_t place)
     if (number == VG_NOT_BELOW)
         show_overlap(package, item_of(l));
     show_line(stderr, place, l);
-    if (number == VG_SHAPE)
-        show_house_needed(package, place);
     if (number == VG_BOUNDS)
         show_bounds(package);
 }
 
-/* A polynomial that is not the sum its lines give: the first of its term lines is shown, and the first of its sum lines. */
-static void tell_sum(const input *package, char kind, char sums, const char *over, uint64_t item)
-{
-    fprintf(stderr, "%c %" PRIu64 " is not the sum over %s that its %c lines give\n", kind, item, over, sums);
-    show_item(package, 0, kind, item);
-    show_item(package, 1, sums, item);
-}
-
-/* A refusal whose place is a basis polynomial, a relation of a house or an overlap. */
+/* A refusal whose place is a basis polynomial, a relation or an overlap. */
 static void tell_item(const input *package, uint64_t number, uint64_t place)
 {
     begin(package, number, 0);
@@ -127,16 +117,14 @@ static void tell_item(const input *package, uint64_t number, uint64_t place)
         show_item(package, 0, 'B', place);
         break;
     case VG_BASIS_SUM:
-        tell_sum(package, 'B', 'B', "the relations", place);
-        break;
-    case VG_OTHER_BASIS_SUM:
-        tell_sum(package, 'B', 'C', "the second house's relations", place);
+        fprintf(stderr, "B %" PRIu64 " is not the sum over the relations that its B lines give\n", place);
+        show_item(package, 0, 'B', place);
+        show_item(package, 1, 'B', place);
         break;
     case VG_RELATION_SUM:
-        tell_sum(package, 'G', 'G', "the basis", place);
-        break;
-    case VG_OTHER_RELATION_SUM:
-        tell_sum(package, 'H', 'H', "the basis", place);
+        fprintf(stderr, "G %" PRIu64 " is not the sum over the basis that its G lines give\n", place);
+        show_item(package, 0, 'G', place);
+        show_item(package, 1, 'G', place);
         break;
     case VG_OVERLAP_SUM:
         fprintf(stderr, "the difference of overlap %" PRIu64 " is not the sum that its O lines give\n", place);
@@ -180,9 +168,7 @@ void tell_refusal(const input *package, const input *formula, uint64_t number, u
         break;
     case VG_LEADING:
     case VG_BASIS_SUM:
-    case VG_OTHER_BASIS_SUM:
     case VG_RELATION_SUM:
-    case VG_OTHER_RELATION_SUM:
     case VG_OVERLAP_SUM:
         tell_item(package, number, place);
         break;

@@ -8,8 +8,6 @@ import cases
 import formulas
 import gf256
 import given
-import house_reading
-import house_sums
 import listing
 import order
 import packing
@@ -17,16 +15,10 @@ import places
 import reading
 import real
 import scaled
-import second_houses
 import sums
 import terms
-import two_houses
 import untrimmed
 
-PARTS = (
-    reading, basis, sums, terms, formulas, order, listing, real, gf256, places, packing, scaled, untrimmed, two_houses, house_reading, house_sums,
-    second_houses, given,
-)
-for part in PARTS:
+for part in (reading, basis, sums, terms, formulas, order, listing, real, gf256, places, packing, scaled, untrimmed, given):
     part.cases()
 cases.write()

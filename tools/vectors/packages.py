@@ -4,7 +4,6 @@ import itertools
 with open("examples/e.pkg", encoding="ascii") as file:
     E = file.read()
 LINES = E.split("\n")[:-1]
-HOUSES_NAMES = "p letters gens others basis"
 LIST_NAMES = "item first second shared at word\n"
 E_LIST = LIST_NAMES + "1 1 1 1 1 aaa\n2 1 2 1 1 aab\n"
 LETTERS = "abcdefghijklmnopqrstuvwxyz"
@@ -19,15 +18,9 @@ def with_line(number, *put):
     return text(LINES[: number - 1] + list(put) + LINES[number:])
 
 
-def replaced(whole, changes):
-    """A package with several lines replaced, each by a list of lines; the number behind the last puts lines there."""
-    old = [[line] for line in whole.split("\n")[:-1]] + [[]]
-    return text(line for n, lines in enumerate(old, 1) for line in changes.get(n, lines))
-
-
 def with_lines(changes):
     """E with several lines replaced, each by a list of lines; line 18 is behind the last."""
-    return replaced(E, changes)
+    return text(line for n, old in enumerate(LINES + [None], 1) for line in changes.get(n, [old] if old else []))
 
 
 def without(*numbers):
@@ -38,27 +31,6 @@ def without(*numbers):
 def package(counts, terms, sums=()):
     """A package of a counts line, term lines and sum lines."""
     return text(LINES[0:1] + [counts] + LINES[2:3] + list(terms) + LINES[9:10] + list(sums))
-
-
-def houses(counts, terms, sums=()):
-    """A package of two houses (P11): the counts line has the number of the second one's relations too."""
-    return package(counts, terms, sums).replace(LINES[0], HOUSES_NAMES, 1)
-
-
-def numbered(kind, items):
-    """The lines of the items of one kind, each line given from its coefficient on."""
-    return ["%s %d %s" % (kind, i, rest) for i, item in enumerate(items, 1) for rest in item]
-
-
-def with_house(whole, relations, basis_sums, relation_sums):
-    """A package of one house with a second one: its relations as lists of terms, for each basis polynomial the C lines over them, and for each
-    of them the H lines over the basis. Each line is given from its coefficient on."""
-    lines = whole.split("\n")[:-1]
-    counts, names = lines[1].split(" "), lines.index(LINES[9])
-    terms = lines[3:names] + numbered("H", relations)
-    sums = lines[names + 1 :] + numbered("C", basis_sums) + numbered("H", relation_sums)
-    return houses(" ".join(counts[:3] + [str(len(relations))] + counts[3:]),
-                  sorted(terms, key=lambda line: "GHB".index(line[0])), sorted(sums, key=lambda line: "BCGHO".index(line[0])))
 
 
 def sum_line(terms, k):
@@ -116,6 +88,3 @@ def copies(count):
 
 NOTHING = package("7 2 0 0", [])
 CONSTANT = package("7 2 1 1", ["G 1 3 -", "B 1 1 -"], ["B 1 5 - 1 -", "G 1 3 - 1 -"])
-# E with B 1 and B 2 exchanged.
-EXCHANGED = package("7 2 1 2", LINES[3:5] + ["B 1 1 ab", "B 1 6 ba", "B 2 1 aa", "B 2 6 b"], [
-    "B 1 1 - 1 a", "B 1 6 a 1 -", "B 2 1 - 1 -", "G 1 1 - 2 -", "O 1 1 - 1 a", "O 1 1 b 2 -", "O 2 1 - 1 -"])

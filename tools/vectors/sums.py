@@ -1,6 +1,6 @@
 """Refusals 11 to 15: the sums that certify a basis, with few terms. Listing does not give them."""
 from cases import accepted, refused, shortened
-from packages import EXCHANGED, LINES, formula, monomials, own_basis, package, with_line, with_lines, without
+from packages import LINES, formula, monomials, own_basis, package, with_line, with_lines, without
 
 
 def table():
@@ -55,8 +55,10 @@ def overlap_sums():
     no_second = with_lines({2: ["7 2 1 1"], 8: [], 9: [], 12: [], 13: [], 15: [], 16: [], 17: []})
     refused("01 err: E without B 2 and O lines", no_second, 13, 1)
     refused("01 err: certified by its own two products", no_second + "O 1 1 - 1 a\nO 1 6 a 1 -\n", 14, 11)
-    accepted("E with B 1 and B 2 exchanged", EXCHANGED, 2)
-    shortened("E with B 1 and B 2 exchanged", EXCHANGED, formula("1 aba"), 2, formula("1 bb"))
+    exchanged = package("7 2 1 2", LINES[3:5] + ["B 1 1 ab", "B 1 6 ba", "B 2 1 aa", "B 2 6 b"], [
+        "B 1 1 - 1 a", "B 1 6 a 1 -", "B 2 1 - 1 -", "G 1 1 - 2 -", "O 1 1 - 1 a", "O 1 1 b 2 -", "O 2 1 - 1 -"])
+    accepted("E with B 1 and B 2 exchanged", exchanged, 2)
+    shortened("E with B 1 and B 2 exchanged", exchanged, formula("1 aba"), 2, formula("1 bb"))
 
 
 def below_the_overlap_word():

@@ -1,4 +1,4 @@
-//! The sums of a package: refusals 10 to 15, 28 and 29.
+//! The sums of a package: refusals 10 to 15.
 
 use crate::block::{compare, Frame, Long, SHORT};
 use crate::field::Field;
@@ -38,8 +38,7 @@ fn no_sides() -> Frame {
     Frame::new([0; SHORT], 0, [0; SHORT], 0)
 }
 
-/// B items with 10 and 11, C items with 10 and 28, G items with 10 and 12, H items with 10 and 29, then 15, then O items
-/// with 14, 10 and 13. Gives the count of pairs.
+/// B items with 10 and 11, G items with 10 and 12, then 15, then O items with 14, 10 and 13. Gives the count of pairs.
 pub fn judge_sums<F: Field>(
     field: F,
     package: &Package,
@@ -47,22 +46,13 @@ pub fn judge_sums<F: Field>(
     working: &mut Working,
 ) -> Result<usize, Refusal> {
     let mut lines = Lines { sums: &package.sums, line: package.first_line };
-    let (relations, others) = (package.relation_numbers(), package.other_numbers());
-    let basis = package.basis_numbers();
-    // Without a second house there is nothing to write over its relations.
-    let again = if package.has_second_house() { basis.clone() } else { 0..0 };
-    // Kind, targets, the number of the first polynomial that lines add, and the refusal of a wrong sum.
-    let kinds = [
-        (b'B', basis.clone(), relations.start, 11),
-        (b'C', again, others.start, 28),
-        (b'G', relations, basis.start, 12),
-        (b'H', others, basis.start, 29),
-    ];
-    for (kind, targets, from, wrong) in kinds {
-        for (item, target) in targets.enumerate() {
-            working.start(field, 1, &mut no_sides(), package.poly(target));
-            judge_sum(field, package, working, &mut lines, (kind, item), from, wrong)?;
-        }
+    for item in 0..package.basis {
+        working.start(field, 1, &mut no_sides(), package.basis_poly(item));
+        judge_sum(field, package, working, &mut lines, (0, item), 11, |of| package.relation(of))?;
+    }
+    for item in 0..package.gens {
+        working.start(field, 1, &mut no_sides(), package.relation(item));
+        judge_sum(field, package, working, &mut lines, (1, item), 12, |of| package.basis_poly(of))?;
     }
     let list = pairs(package);
     if let Some(k) = lines.sums.iter().position(|sum| sum.item as usize > list.len()) {
@@ -74,20 +64,20 @@ pub fn judge_sums<F: Field>(
     Ok(list.len())
 }
 
-/// Takes the lines of a B, C, G or H item away from its target; `of` is counted from the polynomial number `from`.
+/// Takes the lines of a B or G item away from its target.
 #[inline(always)]
-fn judge_sum<F: Field>(
+fn judge_sum<'a, F: Field>(
     field: F,
     package: &Package,
     working: &mut Working,
     lines: &mut Lines,
     (kind, item): (u8, usize),
-    from: usize,
     wrong: u32,
+    poly: impl Fn(usize) -> Poly<'a>,
 ) -> Result<(), Refusal> {
     while let Some(sum) = lines.next(kind, item + 1) {
         let frame = &mut sum.frame(package.bytes);
-        working.add(field, field.minus(sum.coef), frame, package.poly(from + usize::from(sum.of)));
+        working.add(field, field.minus(sum.coef), frame, poly(sum.of.into()));
         if working.len() > MOST {
             return refuse(10, lines.last());
         }
@@ -120,7 +110,7 @@ fn judge_pair<F: Field>(
     // The overlap word is left × second leading word × right, too.
     let top_len = around.put(second.lead_from(0), second.lead_len());
     let top = *around.word();
-    while let Some(sum) = lines.next(b'O', item + 1) {
+    while let Some(sum) = lines.next(2, item + 1) {
         let poly = package.basis_poly(sum.of.into());
         let mut frame = sum.frame(package.bytes);
         if !is_below(sum, poly, &mut frame, &top, top_len) {

@@ -25,7 +25,7 @@ mod working;
 
 pub use services::{check, list_overlaps, member, short_form, Answer};
 
-/// A refusal: its number, 1 to 19, 28 or 29, and its place.
+/// A refusal: its number, 1 to 19, and its place.
 #[derive(Clone, Copy, Debug)]
 pub(crate) struct Refusal {
     number: u32,

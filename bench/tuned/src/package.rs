@@ -5,26 +5,22 @@ use crate::reader::{Field, Reader};
 use crate::sums::{SumLine, LEAST_LINE};
 use crate::terms::{Poly, Terms, TERMS, TERM_LINES};
 use crate::{refuse, Refusal};
-use std::ops::Range;
 
 const BYTES: usize = 65_536;
 const RELATIONS: usize = 32;
 const BASIS: usize = 64;
 
-/// A package that reads. Among all polynomials relations have the numbers 0 to gens - 1, then come those of the second
-/// house, and last the basis.
+/// A package that reads. Relations have the numbers 0 to gens - 1 among all polynomials, the basis those behind.
 pub struct Package<'a> {
     pub bytes: &'a [u8],
     /// A prime, or 256 for GF(256).
     pub p: u32,
     pub letters: u32,
     pub gens: usize,
-    /// How many relations the second house has; 0 where there is no second house.
-    pub others: usize,
     pub basis: usize,
     terms: Terms<TERM_LINES>,
     /// How many terms stand before those of each polynomial, and of all.
-    firsts: [u16; 2 * RELATIONS + BASIS + 1],
+    firsts: [u16; RELATIONS + BASIS + 1],
     /// The sum lines, the first of which has the number `first_line`.
     pub sums: Vec<SumLine>,
     pub first_line: usize,
@@ -33,45 +29,26 @@ pub struct Package<'a> {
 impl<'a> Package<'a> {
     #[inline(always)]
     pub fn new(bytes: &'a [u8]) -> Package<'a> {
-        let firsts = [0; 2 * RELATIONS + BASIS + 1];
+        let firsts = [0; RELATIONS + BASIS + 1];
         let (terms, sums) = (Terms::new(), Vec::new());
-        Package { bytes, p: 0, letters: 0, gens: 0, others: 0, basis: 0, terms, firsts, sums, first_line: 0 }
+        Package { bytes, p: 0, letters: 0, gens: 0, basis: 0, terms, firsts, sums, first_line: 0 }
     }
 
-    /// The polynomial of a number among all.
     #[inline(always)]
-    pub fn poly(&self, number: usize) -> Poly<'_> {
+    fn poly(&self, number: usize) -> Poly<'_> {
         self.terms.poly(self.bytes, usize::from(self.firsts[number]), usize::from(self.firsts[number + 1]))
     }
 
-    /// The numbers of the relations.
+    /// Relation number `item`, from 0.
     #[inline(always)]
-    pub fn relation_numbers(&self) -> Range<usize> {
-        0..self.gens
-    }
-
-    /// The numbers of the second house's relations.
-    #[inline(always)]
-    pub fn other_numbers(&self) -> Range<usize> {
-        self.gens..self.gens + self.others
-    }
-
-    /// The numbers of the basis polynomials.
-    #[inline(always)]
-    pub fn basis_numbers(&self) -> Range<usize> {
-        let from = self.other_numbers().end;
-        from..from + self.basis
+    pub fn relation(&self, item: usize) -> Poly<'_> {
+        self.poly(item)
     }
 
     /// Basis polynomial number `item`, from 0.
     #[inline(always)]
     pub fn basis_poly(&self, item: usize) -> Poly<'_> {
-        self.poly(self.basis_numbers().start + item)
-    }
-
-    #[inline(always)]
-    pub fn has_second_house(&self) -> bool {
-        self.others > 0
+        self.poly(self.gens + item)
     }
 
     pub fn read(&mut self) -> Result<(), Refusal> {
@@ -79,12 +56,10 @@ impl<'a> Package<'a> {
             return refuse(1, 0);
         }
         let mut reader = Reader::new(self.bytes);
-        let second = match reader.line(b"p letters gens basis\n") {
-            Some(()) => false,
-            None if reader.line(b"p letters gens others basis\n").is_some() => true,
-            None => return refuse(2, 1),
-        };
-        self.read_head(&mut reader, second)?;
+        if reader.line(b"p letters gens basis\n").is_none() {
+            return refuse(2, 1);
+        }
+        self.read_head(&mut reader)?;
         if reader.line(b"kind item coef word\n").is_none() {
             return refuse(2, 3);
         }
@@ -92,23 +67,17 @@ impl<'a> Package<'a> {
         self.read_sums(&mut reader)
     }
 
-    /// Line 2, in which `others` has its place if line 1 names a second house.
-    fn read_head(&mut self, reader: &mut Reader, second: bool) -> Result<(), Refusal> {
-        let mut shape = || {
-            let [p, letters, gens] = [reader.number(b' ')?, reader.number(b' ')?, reader.number(b' ')?];
-            let others = if second { reader.number(b' ')? } else { 0 };
-            Some([p, letters, gens, others, reader.number(10)?])
-        };
-        let Some([p, letters, gens, others, basis]) = shape() else {
+    fn read_head(&mut self, reader: &mut Reader) -> Result<(), Refusal> {
+        let mut shape =
+            || Some([reader.number(b' ')?, reader.number(b' ')?, reader.number(b' ')?, reader.number(10)?]);
+        let Some([p, letters, gens, basis]) = shape() else {
             return refuse(2, 2);
         };
         if p != 256 && (p > 65_521 || !is_prime(p)) {
             return refuse(3, 2);
         }
-        (self.p, self.letters) = (p, letters);
-        (self.gens, self.others, self.basis) = (gens as usize, others as usize, basis as usize);
-        let fit = self.gens <= RELATIONS && self.others <= RELATIONS && self.basis <= BASIS;
-        if !(1..=26).contains(&letters) || !fit || self.has_second_house() != second {
+        (self.p, self.letters, self.gens, self.basis) = (p, letters, gens as usize, basis as usize);
+        if !(1..=26).contains(&letters) || self.gens > RELATIONS || self.basis > BASIS {
             return refuse(4, 2);
         }
         Ok(())
@@ -119,16 +88,11 @@ impl<'a> Package<'a> {
         // The polynomial of the line above, counted from 1, and its first term's number.
         let (mut above, mut first) = (0, 0);
         let mut word = Field { start: 0, len: 0, top: 0 };
-        let basis = self.basis_numbers();
         while reader.line(b"kind item coef left of right\n").is_none() {
-            let Some((kind, item, coef, next)) = term_shape(reader, self.has_second_house()) else {
+            let Some((kind, item, coef, next)) = term_shape(reader) else {
                 return refuse(2, line);
             };
-            let (items, before) = match kind {
-                b'G' => (self.gens, 0),
-                b'H' => (self.others, self.gens),
-                _ => (self.basis, basis.start),
-            };
+            let (items, before) = if kind == b'G' { (self.gens, 0) } else { (self.basis, self.gens) };
             if item.wrapping_sub(1) >= items || coef.wrapping_sub(1) >= self.p - 1 || !self.word_fits(next) {
                 return refuse(5, line);
             }
@@ -149,7 +113,7 @@ impl<'a> Package<'a> {
             word = next;
             line += 1;
         }
-        self.firsts[above..=basis.end].fill(self.terms.count() as u16);
+        self.firsts[above..].fill(self.terms.count() as u16);
         self.first_line = line + 1;
         Ok(())
     }
@@ -160,7 +124,7 @@ impl<'a> Package<'a> {
         let mut above = (0, 0);
         while !reader.is_done() {
             let line = self.first_line + sums.len();
-            let Some((sum, left, right)) = SumLine::read(reader, self.has_second_house()) else {
+            let Some((sum, left, right)) = SumLine::read(reader) else {
                 return refuse(2, line);
             };
             if !sum.fits(self) || !self.word_fits(left) || !self.word_fits(right) {
@@ -193,10 +157,10 @@ impl<'a> Package<'a> {
     }
 }
 
-/// A term line: kind, item, coef and word. There is a kind H where there is a second house.
+/// A term line: kind, item, coef and word.
 #[inline(always)]
-fn term_shape(reader: &mut Reader, second: bool) -> Option<(u8, usize, u32, Field)> {
-    let kind = reader.byte().filter(|kind| matches!(kind, b'G' | b'B') || (*kind == b'H' && second))?;
+fn term_shape(reader: &mut Reader) -> Option<(u8, usize, u32, Field)> {
+    let kind = reader.byte().filter(|kind| matches!(kind, b'G' | b'B'))?;
     reader.byte().filter(|byte| *byte == b' ')?;
     Some((kind, reader.number(b' ')? as usize, reader.number(b' ')?, reader.word(10)?))
 }

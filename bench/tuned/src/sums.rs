@@ -7,7 +7,7 @@ use crate::reader::{Field, Reader};
 /// How many bytes the shortest sum line has.
 pub const LEAST_LINE: usize = 12;
 
-/// A sum line: coef × left × (polynomial number `of`) × right. Kinds are their letters, which come in the alphabet's order.
+/// A sum line: coef × left × (polynomial number `of`) × right. Kinds are 0 for B, 1 for G, 2 for O.
 #[derive(Clone, Copy)]
 pub struct SumLine {
     pub item: u32,
@@ -30,12 +30,15 @@ pub struct Shape {
 }
 
 impl SumLine {
-    /// The shape of the next line, with its words. There are kinds C and H where there is a second house.
+    /// The shape of the next line, with its words.
     #[inline(always)]
-    pub fn read(reader: &mut Reader, second: bool) -> Option<(Shape, Field, Field)> {
-        let is_kind =
-            |kind: &u8| matches!(kind, b'B' | b'G' | b'O') || (second && matches!(kind, b'C' | b'H'));
-        let kind = reader.byte().filter(is_kind)?;
+    pub fn read(reader: &mut Reader) -> Option<(Shape, Field, Field)> {
+        let kind = match reader.byte()? {
+            b'B' => 0,
+            b'G' => 1,
+            b'O' => 2,
+            _ => return None,
+        };
         reader.byte().filter(|byte| *byte == b' ')?;
         let (item, coef) = (reader.number(b' ')?, reader.number(b' ')?);
         let left = reader.word(b' ')?;
@@ -63,10 +66,8 @@ impl Shape {
     #[inline(always)]
     pub fn fits(&self, package: &Package) -> bool {
         let (items, polys) = match self.kind {
-            b'B' => (package.basis, package.gens),
-            b'C' => (package.basis, package.others),
-            b'G' => (package.gens, package.basis),
-            b'H' => (package.others, package.basis),
+            0 => (package.basis, package.gens),
+            1 => (package.gens, package.basis),
             _ => (usize::MAX, package.basis),
         };
         (self.item as usize).wrapping_sub(1) < items

@@ -1,4 +1,4 @@
--- A package of which the facts of acceptance hold has an accepted basis: certified, with sums both ways between it and the relations of each house.
+-- A package of which the facts of acceptance hold has an accepted basis: certified, with sums both ways between it and the relations.
 use mathlib.Core.Path.{◌≡◌, refl, sym, ap, subst}
 use mathlib.Core.Bool.{Bool, true, false}
 use mathlib.Core.Logic.{◌⊎◌, inl, inr}
@@ -21,7 +21,7 @@ use Rattle.working.proofs.Families.{family-written}
 use Rattle.overlaps.specs.Pairs.{Pair}
 use Rattle.overlaps.specs.Overlaps.{leads, overlaps}
 use Rattle.overlaps.proofs.Certification.{Certifies, certified}
-use Rattle.package.specs.Names.{sum_b, sum_c, sum_g, sum_h, sum_o}
+use Rattle.package.specs.Names.{sum_b, sum_g, sum_o}
 use Rattle.package.specs.Sums.{SumLine}
 use Rattle.acceptance.specs.Content.{line_of, sum_of, lines_of}
 use Rattle.acceptance.specs.Facts.{SumHolds, Facts}
@@ -59,8 +59,8 @@ lines-over L k i (s ∷ ss) (h also hs) = go (eqb s.kind k) refl (eqb s.item i) 
     go true x false y r = rw (sum_of, x, y) r
     go true x true y r = rw (sum_of, x, y) (h also r)
 
-module _ {L : ℕ → Type 0} {K : Operations} (F : Field K) {O : Order} (A : Admissible O) (rs hs ps : List Poly) (ss : List SumLine)
-    (wp : All (Written K O) ps) (over : All (λ s. Over L (line_of s)) ss) (h : Facts K O rs hs ps ss) where
+module _ {L : ℕ → Type 0} {K : Operations} (F : Field K) {O : Order} (A : Admissible O) (rs ps : List Poly) (ss : List SumLine)
+    (wr : All (Written K O) rs) (wp : All (Written K O) ps) (over : All (λ s. Over L (line_of s)) ss) (h : Facts K O rs ps ss) where
   -- each polynomial leads, or its number names none
   pub basis-leads : (i : ℕ) → (family ps i ≡ []) ⊎ Led K O (family ps i)
   basis-leads i = written-led F A (family ps i) (family-written K O ps wp i)
@@ -89,12 +89,4 @@ module _ {L : ℕ → Type 0} {K : Operations} (F : Field K) {O : Order} (A : Ad
     certified = certified F A ps basis-leads certifies;
     basis-sums = sums (family rs) ps sum_b h.basis-sums;
     relation_sums = sums (family ps) rs sum_g h.relation_sums;
-  }
-
-  -- the same for the second house's relations, where there is one
-  pub others-accepted : 0 < length hs → Accepted L K O (family hs) (family ps)
-  others-accepted l = record {
-    certified = certified F A ps basis-leads certifies;
-    basis-sums = sums (family hs) ps sum_c (h.other_basis-sums l);
-    relation_sums = sums (family ps) hs sum_h h.other_relation_sums;
   }

@@ -3,7 +3,6 @@ pub mod Verdicts
 pub mod Remaining
 pub mod FirstZero
 pub mod SumFacts
-pub mod OtherTargets
 pub mod LinesTaken
 pub mod AcceptedIff
 pub mod Accepted

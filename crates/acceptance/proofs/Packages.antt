@@ -1,7 +1,6 @@
--- The check of a package that reads answers no refusal exactly where the facts of acceptance hold of it, and then its basis is accepted, for each house.
+-- The check of a package that reads answers no refusal exactly where the facts of acceptance hold of it, and then its basis is accepted.
 use mathlib.Core.Path.{◌≡◌}
 use mathlib.Core.Logic.{◌↔◌}
-use Prim.Native.Nat.{◌<◌}
 use Rattle.field.specs.Field.{field_of}
 use Rattle.words.specs.Word.{Letter}
 use Rattle.words.specs.Order.{word_order}
@@ -10,29 +9,20 @@ use Rattle.algebra.specs.Ideal.{family}
 use Rattle.algebra.specs.Short.{Accepted}
 use Rattle.package.specs.Package.{Package}
 use Rattle.package.specs.Readable.{Readable}
-use Rattle.acceptance.specs.Content.{relations, other_relations, basis}
+use Rattle.acceptance.specs.Content.{relations, basis}
 use Rattle.acceptance.specs.Check.{fine, checked}
 use Rattle.acceptance.specs.Facts.{Acceptable}
 use Rattle.acceptance.proofs.AcceptedIff.{facts_iff}
-use Rattle.acceptance.proofs.Accepted.{accepted, others-accepted}
-use Rattle.acceptance.proofs.ReadableContent.{readable-field, relations-written, others-written, others-length, basis-written, sums-letters}
+use Rattle.acceptance.proofs.Accepted.{accepted}
+use Rattle.acceptance.proofs.ReadableContent.{readable-field, relations-written, basis-written, sums-letters}
 
 module _ (P : Package) (r : Readable P) where
   -- demand 2: a package that reads is accepted exactly when 01's facts hold of it
   pub accepted_iff_facts : (checked P ≡ fine) ↔ Acceptable P
   unfolding checked
-  accepted_iff_facts =
-      facts_iff (readable-field P r) word-order-admissible (relations P) (other_relations P) (basis P) P.sums (relations-written P r) (others-written P r)
-      (basis-written P r)
+  accepted_iff_facts = facts_iff (readable-field P r) word-order-admissible (relations P) (basis P) P.sums (relations-written P r) (basis-written P r)
 
   -- what acceptance means for the mathematics, in the package's letters
   pub package_accepted : Acceptable P → Accepted (Letter P.head.letters) (field_of P.head.p) word_order (family (relations P)) (family (basis P))
   package_accepted h =
-      accepted (readable-field P r) word-order-admissible (relations P) (other_relations P) (basis P) P.sums (basis-written P r) (sums-letters P r) h
-
-  -- and for the second house
-  pub house_accepted : Acceptable P → 0 < P.head.others
-      → Accepted (Letter P.head.letters) (field_of P.head.p) word_order (family (other_relations P)) (family (basis P))
-  house_accepted h l =
-      others-accepted (readable-field P r) word-order-admissible (relations P) (other_relations P) (basis P) P.sums (basis-written P r) (sums-letters P r) h
-      (rw (others-length P) l)
+      accepted (readable-field P r) word-order-admissible (relations P) (basis P) P.sums (relations-written P r) (basis-written P r) (sums-letters P r) h

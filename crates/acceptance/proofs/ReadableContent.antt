@@ -1,11 +1,10 @@
 -- What a package that reads holds: its polynomials are in written form and in its letters, and so are the words of its sum lines.
-use mathlib.Core.Path.{◌≡◌, refl, ap, ◌∙◌}
+use mathlib.Core.Path.{◌≡◌, refl, ◌∙◌}
 use mathlib.Core.Logic.{◌⊎◌, inl, inr}
 use mathlib.Core.List.{List, [], ◌∷◌}
 use Prim.Native.Nat.{ℕ, zero, suc, ◌<◌}
 use native.Mathlib.Decide.{ℕ_discrete}
 use native.Mathlib.Omega.{arith}
-use lib.ListN.{length}
 use borrow.Author.Tests.{eq-eqb, ne_eqb}
 use Rattle.field.specs.Field.{Field, field_of}
 use Rattle.field.proofs.Fields.{field_of-field, element_of}
@@ -21,7 +20,7 @@ use Rattle.algebra.specs.Ideal.{family, Over}
 use Rattle.algebra.specs.Groebner.{Led}
 use Rattle.algebra.proofs.WrittenForm.{written-led}
 use Rattle.working.proofs.Families.{family-written}
-use Rattle.package.specs.Names.{term_g, term_h, term_b}
+use Rattle.package.specs.Names.{term_g, term_b}
 use Rattle.package.specs.declared.Head.{Head}
 use Rattle.package.specs.declared.Limits.{Limits}
 use Rattle.package.specs.Items.{item_terms}
@@ -30,7 +29,7 @@ use Rattle.package.specs.Sums.{SumLine}
 use Rattle.package.specs.Package.{Package, package_limits}
 use Rattle.package.specs.Readable.{under, TermInOrder, TermsInOrder, no_terms, term_then, SumsInOrder, no_sums, sum_then, Readable}
 use Rattle.package.proofs.FieldNumbers.{fits_iff, means_prime}
-use Rattle.acceptance.specs.Content.{terms_of, polynomial, polynomials, relations, other_relations, basis, line_of}
+use Rattle.acceptance.specs.Content.{terms_of, polynomial, polynomials, relations, basis, line_of}
 use Rattle.acceptance.proofs.LineFacts.{TermBounds, term-bounds, Follows, follows_is, sum-bounds}
 
 module _ (k i : ℕ) where
@@ -138,16 +137,6 @@ unfolding polynomials
 polynomials-all P k ts h i zero = done
 polynomials-all P k ts h i (suc n) = h i also polynomials-all P k ts h (suc i) n
 
-polynomials-length : (k : ℕ) (ts : List TermLine) (i n : ℕ) → length (polynomials k ts i n) ≡ n
-unfolding polynomials
-polynomials-length k ts i zero = refl
-polynomials-length k ts i (suc n) = ap suc (polynomials-length k ts (suc i) n)
-
--- as many as line 2 says
-pub others-length : (P : Package) → length (other_relations P) ≡ P.head.others
-unfolding other_relations
-others-length P = polynomials-length term_h P.terms 1 P.head.others
-
 sums-over : (h : Head) (m : Limits) {k i n : ℕ} (ss : List SumLine) → SumsInOrder h m k i n ss → All (λ s. Over (Letter h.letters) (line_of s)) ss
 sums-over h m [] no_sums = done
 sums-over h m (s ∷ ss) (sum_then o os) =
@@ -166,10 +155,6 @@ module _ (P : Package) (r : Readable P) where
   pub relations-written : All (Written (field_of P.head.p) word_order) (relations P)
   unfolding relations
   relations-written = polynomials-all (Written (field_of P.head.p) word_order) term_g P.terms (λ i. (item_both term_g i).0) 1 P.head.gens
-
-  pub others-written : All (Written (field_of P.head.p) word_order) (other_relations P)
-  unfolding other_relations
-  others-written = polynomials-all (Written (field_of P.head.p) word_order) term_h P.terms (λ i. (item_both term_h i).0) 1 P.head.others
 
   pub basis-written : All (Written (field_of P.head.p) word_order) (basis P)
   unfolding basis

@@ -1,5 +1,5 @@
 -- What the reader's slices hold of a package that was read: its terms are well formed, the items' parts rise, and the polynomials by number are
--- the package's relations, those of a second house, and its basis.
+-- the package's relations and basis.
 use mathlib.Core.Path.{◌≡◌, refl, sym, ◌∙◌, ap, ap₂}
 use mathlib.Core.Bool.{Bool, true, false, false≢true}
 use mathlib.Core.List.{List, [], ◌∷◌}
@@ -17,12 +17,12 @@ use Rattle.lists.proofs.Entries.{part_at}
 use Rattle.text.specs.Bytes.{within}
 use Rattle.text.specs.Pieces.{part}
 use Rattle.text.proofs.Bytewise.{within_in}
-use Rattle.package.specs.Names.{term_g, term_h, term_b}
+use Rattle.package.specs.Names.{term_g, term_b}
 use Rattle.package.specs.declared.Head.{Head}
 use Rattle.package.specs.declared.Limits.{Limits}
 use Rattle.package.specs.declared.Reading.TheVariants.{Whole}
 use Rattle.package.specs.Held.{held_term, held_terms, seen_all, WordsInside, StartsMarked}
-use Rattle.package.specs.Items.{before_basis, slot, slots_of, first_of, item_terms}
+use Rattle.package.specs.Items.{slot, slots_of, first_of, item_terms}
 use Rattle.package.specs.Package.{Package, read_package, package_limits}
 use Rattle.package.specs.Readable.{under, TermsInOrder, no_terms, term_then, Readable}
 use Rattle.package.specs.Terms.{TermLine, LineAbove, start, items_of, counted, has_room}
@@ -34,7 +34,7 @@ use Rattle.working.specs.Working.{terms}
 use Rattle.working.specs.Family.{between, poly_between, family_at, Terms, Runs}
 use Rattle.working.proofs.Terms.{terms-length, terms_at}
 use Rattle.working.proofs.Between.{between-length}
-use Rattle.acceptance.specs.Content.{terms_of, polynomial, polynomials, relations, other_relations, basis}
+use Rattle.acceptance.specs.Content.{terms_of, polynomial, polynomials, relations, basis}
 use Rattle.acceptance.proofs.LineFacts.{TermBounds, term-bounds}
 use Rattle.acceptance.proofs.ReadableContent.{item_here, item_other, is_item, Past, past-none, passed}
 
@@ -166,7 +166,7 @@ terms_of_at (t ∷ ts) (suc j) d = terms_of_at ts j d
 
 -- What a caller of the reader knows of a package that was read.
 module _ (s ks is cs os ls fs : List ℕ) (h : Head) (m at n : ℕ) (e : seen_all s ks is cs os ls (Whole h m at n) ≡ read_package s)
-    (marked : StartsMarked h ks is m fs) (inside : WordsInside s os ls m) (lc : m ≤ length cs) (lo : m ≤ length os) (ll : m ≤ length ls) (lf : before_basis h + h.basis + 1 < length fs) where
+    (marked : StartsMarked h ks is m fs) (inside : WordsInside s os ls m) (lc : m ≤ length cs) (lo : m ≤ length os) (ll : m ≤ length ls) (lf : h.gens + h.basis + 1 < length fs) where
   abbrev P : Package
   P = whole_package s ks is cs os ls h m at n
 
@@ -195,13 +195,13 @@ module _ (s ks is cs os ls fs : List ℕ) (h : Head) (m at n : ℕ) (e : seen_al
   whole = held_terms s ks is cs os ls m
 
   -- where the terms of item number j start
-  mark : (j : ℕ) → j < before_basis h + h.basis + 2 → get_or fs j 0 ≡ first_of j (slots_of h whole)
+  mark : (j : ℕ) → j < h.gens + h.basis + 2 → get_or fs j 0 ≡ first_of j (slots_of h whole)
   mark j l = marked j l ∙ ap (first_of j) (sym (slots_kept h s ks is cs os ls m))
 
-  mark-most : (j : ℕ) → j < before_basis h + h.basis + 2 → get_or fs j 0 ≤ m
+  mark-most : (j : ℕ) → j < h.gens + h.basis + 2 → get_or fs j 0 ≤ m
   mark-most j l = omega (arith, mark j l, first-most j (slots_of h whole), slots_length h whole, kept-length s ks is cs os ls m)
 
-  mark_rises : (j : ℕ) → suc j < before_basis h + h.basis + 2 → get_or fs j 0 ≤ get_or fs (suc j) 0
+  mark_rises : (j : ℕ) → suc j < h.gens + h.basis + 2 → get_or fs j 0 ≤ get_or fs (suc j) 0
   mark_rises j l = omega (arith, mark j (omega arith), mark (suc j) l, first_rises j (slots_of h whole))
 
   -- a part of the slices holds the terms of a part of the term lines
@@ -226,8 +226,8 @@ module _ (s ks is cs os ls fs : List ℕ) (h : Head) (m at n : ℕ) (e : seen_al
           terms_at (poly_term (between cs a b) (between os a b) (between ls a b) s) (length (between cs a b)) j (record { coef = d.coef; word = d.word }) (omega arith)
           ∙ rw (part_at cs a (b - a) j q, part_at os a (b - a) j q, part_at ls a (b - a) j q) (sym (terms_of_at (take (b - a) (drop a whole)) j d ∙ rw x))
 
-  module _ (k base count : ℕ) (kind : within term_g term_b k ≡ true) (items : items_of h k ≡ count) (slots : (g : ℕ) → g < count → slot h k (suc g) ≡ base + g)
-      (all : base + count < before_basis h + h.basis + 2) where
+  module _ (k base count : ℕ) (kind : within 1 2 k ≡ true) (items : items_of h k ≡ count) (slots : (g : ℕ) → g < count → slot h k (suc g) ≡ base + g)
+      (all : base + count < h.gens + h.basis + 2) where
     item_in : (g : ℕ) → g < count → within 1 (items_of h k) (suc g) ≡ true
     item_in g l = within_in 1 (items_of h k) (suc g) (omega arith) (omega arith)
 
@@ -273,11 +273,7 @@ module _ (s ks is cs os ls fs : List ℕ) (h : Head) (m at n : ℕ) (e : seen_al
   unfolding slot
   relation_slots g l = sym (one-add g)
 
-  other_slots : (g : ℕ) → g < h.others → slot h term_h (suc g) ≡ h.gens + 1 + g
-  unfolding slot
-  other_slots g l = omega arith
-
-  basis_slots : (g : ℕ) → g < h.basis → slot h term_b (suc g) ≡ before_basis h + 1 + g
+  basis_slots : (g : ℕ) → g < h.basis → slot h term_b (suc g) ≡ h.gens + 1 + g
   unfolding slot
   basis_slots g l = omega arith
 
@@ -285,41 +281,23 @@ module _ (s ks is cs os ls fs : List ℕ) (h : Head) (m at n : ℕ) (e : seen_al
   unfolding items_of
   relation_items = refl
 
-  other_items : items_of h term_h ≡ h.others
-  unfolding items_of
-  other_items = refl
-
   basis-items : items_of h term_b ≡ h.basis
   unfolding items_of
   basis-items = refl
 
-  -- each kind is one of block 2
-  kind_in : (k : ℕ) → term_g ≤ k → k ≤ term_b → within term_g term_b k ≡ true
-  kind_in k l m = within_in term_g term_b k l m
-
   pub relations-run : Runs fs 1 h.gens m
-  relations-run = runs term_g 1 h.gens (kind_in term_g (omega arith) (omega arith)) relation_items relation_slots (omega arith)
+  relations-run = runs term_g 1 h.gens (within_in 1 2 term_g (omega arith) (omega arith)) relation_items relation_slots (omega arith)
 
-  pub others-run : Runs fs (h.gens + 1) h.others m
-  others-run = runs term_h (h.gens + 1) h.others (kind_in term_h (omega arith) (omega arith)) other_items other_slots (omega arith)
-
-  pub basis-run : Runs fs (before_basis h + 1) h.basis m
-  basis-run = runs term_b (before_basis h + 1) h.basis (kind_in term_b (omega arith) (omega arith)) basis-items basis_slots (omega arith)
+  pub basis-run : Runs fs (h.gens + 1) h.basis m
+  basis-run = runs term_b (h.gens + 1) h.basis (within_in 1 2 term_b (omega arith) (omega arith)) basis-items basis_slots (omega arith)
 
   pub relations-held : family_at cs os ls s fs 1 h.gens ≡ relations P
   unfolding relations
-  relations-held = family_is term_g 1 h.gens (kind_in term_g (omega arith) (omega arith)) relation_items relation_slots (omega arith) 0 h.gens (omega arith)
+  relations-held = family_is term_g 1 h.gens (within_in 1 2 term_g (omega arith) (omega arith)) relation_items relation_slots (omega arith) 0 h.gens (omega arith)
 
-  pub others-held : family_at cs os ls s fs (h.gens + 1) h.others ≡ other_relations P
-  unfolding other_relations
-  others-held =
-      let z : h.gens + 1 + 0 ≡ h.gens + 1 = omega arith in
-      ap (λ (j : ℕ). family_at cs os ls s fs j h.others) (sym z)
-      ∙ family_is term_h (h.gens + 1) h.others (kind_in term_h (omega arith) (omega arith)) other_items other_slots (omega arith) 0 h.others (omega arith)
-
-  pub basis-held : family_at cs os ls s fs (before_basis h + 1) h.basis ≡ basis P
+  pub basis-held : family_at cs os ls s fs (h.gens + 1) h.basis ≡ basis P
   unfolding basis
   basis-held =
-      let z : before_basis h + 1 + 0 ≡ before_basis h + 1 = omega arith in
+      let z : h.gens + 1 + 0 ≡ h.gens + 1 = omega arith in
       ap (λ (j : ℕ). family_at cs os ls s fs j h.basis) (sym z)
-      ∙ family_is term_b (before_basis h + 1) h.basis (kind_in term_b (omega arith) (omega arith)) basis-items basis_slots (omega arith) 0 h.basis (omega arith)
+      ∙ family_is term_b (h.gens + 1) h.basis (within_in 1 2 term_b (omega arith) (omega arith)) basis-items basis_slots (omega arith) 0 h.basis (omega arith)

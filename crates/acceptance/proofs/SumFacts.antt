@@ -1,4 +1,4 @@
--- 10 to 15, 28 and 29: the sums of each kind hold, no O item is above the count of pairs, and the sums of the pairs hold with every line below its overlap word.
+-- 10 to 15: the sums of each kind hold, no O item is above the count of pairs, and the sums of the pairs hold with every line below its overlap word.
 use mathlib.Core.Path.{◌≡◌, refl, sym, ◌∙◌}
 use mathlib.Core.Bool.{Bool, true, false, true≢false}
 use mathlib.Core.Logic.{◌↔◌}
@@ -56,7 +56,7 @@ items_from_lem count (s ∷ ss) (h also hs) = go (ℕ_discrete s.kind sum_o) (it
     go (no k) r = rw (items_judged, ne_eqb s.kind sum_o k) r
 
 module _ {K : Operations} (F : Field K) {O : Order} (A : Admissible O) where
-  -- lines of the kinds other than O pass their test, which is none
+  -- B and G lines pass their test, which is none
   any_pass : (xs : List Line) → All (λ x. any_line x ≡ true) xs
   unfolding any_line
   any_pass xs = all_of (λ x. refl) xs
@@ -87,7 +87,7 @@ module _ {K : Operations} (F : Field K) {O : Order} (A : Admissible O) where
 
   -- every sum of a kind holds
   abbrev pub SideHolds : List SumLine → Side → Type 0
-  SideHolds ss s = (m : ℕ) → m < length s.targets → SumHolds K O (family s.sources) (get_or s.targets m []) (lines_of (sum_of s.kind (suc m) ss))
+  SideHolds ss s = (m : ℕ) → m < length s.targets → SumHolds K O (family s.others) (get_or s.targets m []) (lines_of (sum_of s.kind (suc m) ss))
 
   -- the kinds of sums: none is refused exactly if all sums of each kind hold
   pub kinds_iff : (ss : List SumLine) (kinds : List Side) → All (λ s. All (Written K O) s.targets) kinds
@@ -97,17 +97,17 @@ module _ {K : Operations} (F : Field K) {O : Order} (A : Admissible O) where
   kinds_iff ss (s ∷ more) (c also cs) = (to (kinds_iff ss more cs).0, from (kinds_iff ss more cs).1)
     where
       here : Verdict
-      here = sums_judged s.number s.kind K O (family s.sources) ss s.targets 1
+      here = sums_judged s.number s.kind K O (family s.others) ss s.targets 1
 
       to : (kinds_judged K O ss more ≡ fine → All (SideHolds ss) more) → then_judge here (kinds_judged K O ss more) ≡ fine → All (SideHolds ss) (s ∷ more)
       to ih e =
           let (x, y) = (then_iff here (kinds_judged K O ss more)).0 e in
-          (λ m l. rw (one-add m) at (sums_to s.number s.kind (family s.sources) ss s.targets 1 c x m l)) also ih y
+          (λ m l. rw (one-add m) at (sums_to s.number s.kind (family s.others) ss s.targets 1 c x m l)) also ih y
 
       from : (All (SideHolds ss) more → kinds_judged K O ss more ≡ fine) → All (SideHolds ss) (s ∷ more) → then_judge here (kinds_judged K O ss more) ≡ fine
       from ih (h also hs) =
           (then_iff here (kinds_judged K O ss more)).1 (
-            sums_from s.number s.kind (family s.sources) ss s.targets 1 c (λ m l. rw (one-add m) (h m l)),
+            sums_from s.number s.kind (family s.others) ss s.targets 1 c (λ m l. rw (one-add m) (h m l)),
             ih hs,
           )
 

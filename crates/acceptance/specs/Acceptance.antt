@@ -8,7 +8,7 @@ unfoldable pub judged_by : (Package → Verdict) → Outcome → Outcome
 judged_by judge (refused n k) = refused n k
 judged_by judge (read P) = elim (judge P) [ refusal n k ↦ refused n k | fine ↦ read P ]
 
--- The check judges 1 to 15, and with a second house 28 and 29; what it does not refuse is accepted.
+-- The check judges 1 to 15; what it does not refuse is accepted.
 unfoldable pub acceptance : List ℕ → Outcome
 unfolding judged_by read_package checked
 acceptance bytes = judged_by checked (read_package bytes)

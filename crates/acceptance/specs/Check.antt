@@ -1,4 +1,4 @@
--- The check: the first refusal of 8, 10 to 15, 28 and 29 in document 01's order, or none. (Document 02, P2: 9 is no longer met; P11: 28 and 29.)
+-- The check: the first refusal of 8 and 10 to 15 in document 01's order, or none. (Document 02, P2: 9 is no longer met.)
 use Rattle.std.specs.Prelude.{Bool, true, false, List, [], ◌∷◌, ℕ, suc, eqb, ltb, length}
 use Rattle.field.specs.Field.{Operations, field_of}
 use Rattle.words.specs.declared.Comparison.TheVariants.{Below, Equal, Above}
@@ -11,10 +11,10 @@ use Rattle.algebra.specs.Groebner.{top}
 use Rattle.algebra.specs.Steps.{take_away}
 use Rattle.overlaps.specs.Pairs.{Pair}
 use Rattle.overlaps.specs.Overlaps.{leads, overlaps, overlap_word, difference}
-use Rattle.package.specs.Names.{sum_b, sum_c, sum_g, sum_h, sum_o}
+use Rattle.package.specs.Names.{sum_b, sum_g, sum_o}
 use Rattle.package.specs.Sums.{SumLine}
 use Rattle.package.specs.Package.{Package}
-use Rattle.acceptance.specs.Content.{relations, other_relations, basis, line_of, sum_of}
+use Rattle.acceptance.specs.Content.{relations, basis, line_of, sum_of}
 
 -- Refused with number and place, or not.
 pub data Verdict : Type 0 where
@@ -50,7 +50,7 @@ less test K O G f (s ∷ ss) = elim (test (line_of s)) [
   ]
 ]
 
--- The test of lines of the kinds other than O: none.
+-- The test of B and G lines: none.
 unfoldable pub any_line : Line → Bool
 any_line x = true
 
@@ -77,28 +77,20 @@ pub record Side : Type 0 where
   pub kind : ℕ
   pub number : ℕ
   pub targets : List Poly
-  pub sources : List Poly
+  pub others : List Poly
 
--- What C sums must equal: the basis ps, where there is a second house, with relations hs; else there is nothing to write.
-unfoldable pub other_targets : List Poly → List Poly → List Poly
-other_targets [] ps = []
-other_targets (h ∷ hs) ps = ps
-
--- The kinds of sums in the order of judgement: B sums equal the basis, over the relations (11); C sums the basis, over the second house's relations (28); G
--- sums the relations, over the basis (12); H sums the second house's relations, over the basis (29).
-abbrev pub sides : List Poly → List Poly → List Poly → List Side
-sides rs hs ps =
-    record { kind = sum_b; number = 11; targets = ps; sources = rs }
-    ∷ record { kind = sum_c; number = 28; targets = other_targets hs ps; sources = hs }
-    ∷ record { kind = sum_g; number = 12; targets = rs; sources = ps }
-    ∷ record { kind = sum_h; number = 29; targets = hs; sources = ps }
+-- The kinds of sums in the order of judgement: B sums equal the basis, over the relations (11); G sums equal the relations, over the basis (12).
+abbrev pub sides : List Poly → List Poly → List Side
+sides rs ps =
+    record { kind = sum_b; number = 11; targets = ps; others = rs }
+    ∷ record { kind = sum_g; number = 12; targets = rs; others = ps }
     ∷ []
 
 -- The kinds of sums one after the other, each for all its items.
 unfoldable pub kinds_judged : Operations → Order → List SumLine → List Side → Verdict
 unfolding sums_judged then_judge family
 kinds_judged K O ss [] = fine
-kinds_judged K O ss (s ∷ more) = then_judge (sums_judged s.number s.kind K O (family s.sources) ss s.targets 1) (kinds_judged K O ss more)
+kinds_judged K O ss (s ∷ more) = then_judge (sums_judged s.number s.kind K O (family s.others) ss s.targets 1) (kinds_judged K O ss more)
 
 -- 15: the first O line whose item is above the count of overlaps and inclusions.
 unfoldable pub items_judged : ℕ → List SumLine → Verdict
@@ -123,14 +115,14 @@ unfolding zeros_judged
 basis_judged ps = zeros_judged ps 1
 
 -- The kinds of sums; then 15; then the overlaps and inclusions.
-unfoldable pub sums_verdict : Operations → Order → List Poly → List Poly → List Poly → List SumLine → Verdict
-unfolding kinds_judged items_judged overlaps_judged then_judge leads overlaps family other_targets
-sums_verdict K O rs hs ps ss =
-    then_judge (kinds_judged K O ss (sides rs hs ps))
+unfoldable pub sums_verdict : Operations → Order → List Poly → List Poly → List SumLine → Verdict
+unfolding kinds_judged items_judged overlaps_judged then_judge leads overlaps family
+sums_verdict K O rs ps ss =
+    then_judge (kinds_judged K O ss (sides rs ps))
     (then_judge (items_judged (length (overlaps (leads ps))) ss)
     (overlaps_judged K O (family ps) ss (overlaps (leads ps)) 1))
 
 -- The check of a package that reads: the basis; the kinds of sums; 15; the overlaps and inclusions.
 unfoldable pub checked : Package → Verdict
-unfolding basis_judged sums_verdict then_judge relations other_relations basis field_of word_order
-checked P = then_judge (basis_judged (basis P)) (sums_verdict (field_of P.head.p) word_order (relations P) (other_relations P) (basis P) P.sums)
+unfolding basis_judged sums_verdict then_judge relations basis field_of word_order
+checked P = then_judge (basis_judged (basis P)) (sums_verdict (field_of P.head.p) word_order (relations P) (basis P) P.sums)

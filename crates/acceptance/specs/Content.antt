@@ -1,8 +1,8 @@
--- What a package that reads holds: the field that p means, the relations of one house or two and the basis as polynomials, and the lines of each sum.
+-- What a package that reads holds: the field that p means, relations and basis as polynomials, and the lines of each sum.
 use Rattle.std.specs.Prelude.{Bool, true, false, List, [], ◌∷◌, ◌++◌, ℕ, zero, suc, eqb}
 use Rattle.algebra.specs.Poly.{Poly}
 use Rattle.algebra.specs.Ideal.{Line}
-use Rattle.package.specs.Names.{term_g, term_h, term_b}
+use Rattle.package.specs.Names.{term_g, term_b}
 use Rattle.package.specs.Items.{item_terms}
 use Rattle.package.specs.Terms.{TermLine}
 use Rattle.package.specs.Sums.{SumLine}
@@ -28,11 +28,6 @@ polynomials k ts i (suc n) = polynomial k i ts ∷ polynomials k ts (suc i) n
 unfoldable pub relations : Package → List Poly
 unfolding polynomials
 relations P = polynomials term_g P.terms 1 P.head.gens
-
--- The second house's relations: items of kind H of block 2, none where there is no second house.
-unfoldable pub other_relations : Package → List Poly
-unfolding polynomials
-other_relations P = polynomials term_h P.terms 1 P.head.others
 
 -- The basis: items of kind B of block 2.
 unfoldable pub basis : Package → List Poly

@@ -1,4 +1,4 @@
--- The facts of acceptance (document 01, and document 02, P2, P4 and P11), as statements about polynomials, with no order of judgement and no procedure.
+-- The facts of acceptance (document 01, and document 02, P2 and P4), as statements about polynomials, with no order of judgement and no procedure.
 use Rattle.std.specs.Prelude.{◌≡◌, ◌≢◌, List, [], ◌∷◌, ◌++◌, ℕ, suc, ◌≤◌, ◌<◌, length, get_or}
 use Rattle.field.specs.Field.{Operations, field_of}
 use Rattle.lists.specs.All.{All}
@@ -9,10 +9,10 @@ use Rattle.algebra.specs.Ideal.{Family, family, Line, value}
 use Rattle.algebra.specs.Groebner.{top}
 use Rattle.overlaps.specs.Pairs.{Pair}
 use Rattle.overlaps.specs.Overlaps.{leads, overlaps, overlap_word, difference}
-use Rattle.package.specs.Names.{sum_b, sum_c, sum_g, sum_h, sum_o}
+use Rattle.package.specs.Names.{sum_b, sum_g, sum_o}
 use Rattle.package.specs.Sums.{SumLine}
 use Rattle.package.specs.Package.{Package}
-use Rattle.acceptance.specs.Content.{relations, other_relations, basis, sum_of, lines_of}
+use Rattle.acceptance.specs.Content.{relations, basis, sum_of, lines_of}
 
 -- No line of a sum meets refusal 10: after each line, target minus the sum so far has at most 512 terms.
 abbrev pub FewTerms : Operations → Order → Family → Poly → List Line → Type 0
@@ -30,18 +30,14 @@ abbrev pub overlap_at : List Poly → ℕ → Pair
 overlap_at ps k =
     get_or (record { first = 0; second = 0; shared = 0; at = 0 } ∷ overlaps (leads ps)) k (record { first = 0; second = 0; shared = 0; at = 0 })
 
--- What holds of relations rs, relations hs of a second house (none where there is no second house), basis ps and sum lines ss.
-pub record Facts (K : Operations) (O : Order) (rs hs ps : List Poly) (ss : List SumLine) : Type 0 where
+-- What holds of relations rs, basis ps and sum lines ss.
+pub record Facts (K : Operations) (O : Order) (rs ps : List Poly) (ss : List SumLine) : Type 0 where
   -- every basis polynomial is nonzero
   pub nonzero : All (λ f. f ≢ []) ps
   -- B sums equal the basis
   pub basis-sums : (i : ℕ) → i < length ps → SumHolds K O (family rs) (get_or ps i []) (lines_of (sum_of sum_b (suc i) ss))
-  -- C sums, over the second house's relations, equal the basis, where there is a second house
-  pub other_basis-sums : 0 < length hs → (i : ℕ) → i < length ps → SumHolds K O (family hs) (get_or ps i []) (lines_of (sum_of sum_c (suc i) ss))
   -- G sums equal the relations
   pub relation_sums : (i : ℕ) → i < length rs → SumHolds K O (family ps) (get_or rs i []) (lines_of (sum_of sum_g (suc i) ss))
-  -- H sums equal the second house's relations
-  pub other_relation_sums : (i : ℕ) → i < length hs → SumHolds K O (family ps) (get_or hs i []) (lines_of (sum_of sum_h (suc i) ss))
   -- no O item is above the count of overlaps and inclusions
   pub items : All (λ s. s.kind ≡ sum_o → s.item ≤ length (overlaps (leads ps))) ss
   -- O sums equal the differences of the overlaps and inclusions
@@ -53,4 +49,4 @@ pub record Facts (K : Operations) (O : Order) (rs hs ps : List Poly) (ss : List 
 
 -- The facts of acceptance hold of a package that reads.
 abbrev pub Acceptable : Package → Type 0
-Acceptable P = Facts (field_of P.head.p) word_order (relations P) (other_relations P) (basis P) P.sums
+Acceptable P = Facts (field_of P.head.p) word_order (relations P) (basis P) P.sums

@@ -10,20 +10,19 @@ use Rattle.algebra.specs.Poly.{Poly}
 use Rattle.overlaps.specs.Overlaps.{leads}
 use Rattle.working.specs.Family.{family_at}
 use Rattle.package.specs.declared.Head.{Head}
-use Rattle.package.specs.Items.{before_basis}
 use Rattle.package.specs.Package.{Package, refused, read}
 use Rattle.package.specs.Readable.{Readable}
 use Rattle.package.specs.Sums.{SumLine}
 use Rattle.package.proofs.PackageTexts.{reads-written}
-use Rattle.acceptance.specs.Content.{relations, other_relations, basis}
+use Rattle.acceptance.specs.Content.{relations, basis}
 use Rattle.acceptance.specs.Check.{Verdict, refusal, fine, then_judge, basis_judged, sums_verdict, checked}
 use Rattle.acceptance.specs.Acceptance.{judged_by, acceptance}
 use Rattle.basis.specs.Heads.{HeadsOf}
 use Rattle.sumlines.specs.Lines.{sums_at}
 use Rattle.sumorder.specs.Reached.{SumsStart}
 use Rattle.sumorder.proofs.Row.{then-refused, then-fine}
-use Rattle.table.specs.Table.{prime_in, letters_in, gens_in, others_in, basis_count_in, field_in, order_in}
-use Rattle.table.specs.Polynomials.{relations_in, other_relations_in, basis_in}
+use Rattle.table.specs.Table.{prime_in, letters_in, gens_in, basis_count_in, field_in, order_in}
+use Rattle.table.specs.Polynomials.{relations_in, basis_in}
 use Rattle.table.specs.Tabled.{Tabled}
 use Rattle.tablesums.specs.Heading.{head_in}
 use Rattle.tablesums.specs.Leading.{HeadsIn}
@@ -47,9 +46,9 @@ Rejects (Rejected n k) = Unit {0}
 Rejects (Accepted c) = ⊥
 
 -- Equal fields, polynomials and lines have one verdict.
-same_verdict : {p q : ℕ} {rs ts hs ks ps qs : List Poly} {xs ys : List SumLine} → p ≡ q → rs ≡ ts → hs ≡ ks → ps ≡ qs → xs ≡ ys
-    → sums_verdict (field_of p) word_order rs hs ps xs ≡ sums_verdict (field_of q) word_order ts ks qs ys
-same_verdict e f o g h = rw (e, f, o, g, h)
+same-sums : {p q : ℕ} {rs ts ps qs : List Poly} {xs ys : List SumLine} → p ≡ q → rs ≡ ts → ps ≡ qs → xs ≡ ys
+    → sums_verdict (field_of p) word_order rs ps xs ≡ sums_verdict (field_of q) word_order ts qs ys
+same-sums e f g h = rw (e, f, g, h)
 
 -- The table holds the head and the polynomials that lie in the slices, and no basis polynomial is zero.
 pub record TableHolds (bytes cs os ls fs : List ℕ) (h : Head) (t : List ℕ) : Type 0 where
@@ -57,22 +56,20 @@ pub record TableHolds (bytes cs os ls fs : List ℕ) (h : Head) (t : List ℕ) :
   pub prime : prime_in t ≡ h.p
   pub letters : letters_in t ≡ h.letters
   pub gens : gens_in t ≡ h.gens
-  pub others-count : others_in t ≡ h.others
   pub count : basis_count_in t ≡ h.basis
   pub relations : relations_in t ≡ family_at cs os ls bytes fs 1 h.gens
-  pub others : other_relations_in t ≡ family_at cs os ls bytes fs (h.gens + 1) h.others
-  pub basis : basis_in t ≡ family_at cs os ls bytes fs (before_basis h + 1) h.basis
-  pub sound : basis_judged (family_at cs os ls bytes fs (before_basis h + 1) h.basis) ≡ fine
+  pub basis : basis_in t ≡ family_at cs os ls bytes fs (h.gens + 1) h.basis
+  pub sound : basis_judged (family_at cs os ls bytes fs (h.gens + 1) h.basis) ≡ fine
 
 module _ {bytes cs os ls fs : List ℕ} {h : Head} {m at n : ℕ} (r : PackageRead bytes cs os ls fs h m at n) where
   abbrev P : Package
   P = r.whole
 
   abbrev polys : List Poly
-  polys = family_at cs os ls bytes fs (before_basis h + 1) h.basis
+  polys = family_at cs os ls bytes fs (h.gens + 1) h.basis
 
   abbrev sums : Verdict
-  sums = sums_verdict (field_of P.head.p) word_order (relations P) (other_relations P) (basis P) P.sums
+  sums = sums_verdict (field_of P.head.p) word_order (relations P) (basis P) P.sums
 
   readable : Readable P
   readable = (reads-written P bytes r.reads).0
@@ -89,13 +86,10 @@ module _ {bytes cs os ls fs : List ℕ} {h : Head} {m at n : ℕ} (r : PackageRe
   -- The table holds the package.
   module _ {t : List ℕ} (T : TableHolds bytes cs os ls fs h t) where
     head_is : head_in t ≡ h
-    head_is = rw (T.prime, T.letters, T.gens, T.others-count, T.count)
+    head_is = rw (T.prime, T.letters, T.gens, T.count)
 
     relations_are : relations_in t ≡ relations P
     relations_are = T.relations ∙ r.relations
-
-    others_are : other_relations_in t ≡ other_relations P
-    others_are = T.others ∙ r.others
 
     basis_is : basis_in t ≡ basis P
     basis_is = T.basis ∙ r.basis
@@ -107,7 +101,7 @@ module _ {bytes cs os ls fs : List ℕ} {h : Head} {m at n : ℕ} (r : PackageRe
     pub begins_in : SumsStart (head_in t) bytes at n
     begins_in = subst (λ (k : Head). SumsStart k bytes at n) (sym head_is) r.begins
 
-    pub heads_in : (heads headlens : List ℕ) → HeadsOf cs os ls bytes fs (before_basis h + 1) h.basis heads headlens → HeadsIn t heads headlens bytes
+    pub heads_in : (heads headlens : List ℕ) → HeadsOf cs os ls bytes fs (h.gens + 1) h.basis heads headlens → HeadsIn t heads headlens bytes
     heads_in heads headlens H = record {
       laid = rw T.count H.laid;
       leading = ap (laid_words heads headlens bytes) T.count ∙ H.leading ∙ ap leads (sym T.basis);
@@ -115,11 +109,11 @@ module _ {bytes cs os ls fs : List ℕ} {h : Head} {m at n : ℕ} (r : PackageRe
 
     -- What it answers.
     abbrev verdict : Verdict
-    verdict = sums_verdict (field_in t) (order_in t) (relations_in t) (other_relations_in t) (basis_in t) (sums_at bytes at n)
+    verdict = sums_verdict (field_in t) (order_in t) (relations_in t) (basis_in t) (sums_at bytes at n)
 
     verdict_is : verdict ≡ then_judge (basis_judged (basis P)) sums
     verdict_is =
-        same_verdict (T.prime ∙ ap (λ (k : Head). k.p) (sym r.head)) relations_are others_are basis_is r.sums
+        same-sums (T.prime ∙ ap (λ (k : Head). k.p) (sym r.head)) relations_are basis_is r.sums
         ∙ sym (then-fine (basis_judged (basis P)) sums fine-basis)
 
     -- What the check rejects is refused.

@@ -1,4 +1,4 @@
-// A package's bytes, read and checked: refusals 1 to 15, 28 and 29, or the package in its table.
+// A package's bytes, read and checked: refusals 1 to 15, or the package in its table.
 
 ghost use Rattle.std.specs.Prelude.{◌≡◌, length};
 ghost use Rattle.packedterms.specs.Formula.{Room};
@@ -14,7 +14,7 @@ use reading::read::read_package;
 use table::Table;
 use tabulating::filling::tabulate;
 
-// Reads and checks a package: 1 to 7 in reading; then 8; then, on its table, 10 to 15, 28 and 29. Where it is taken, t is its table. c, l, w and o are
+// Reads and checks a package: 1 to 7 in reading; then 8; then, on its table, 10 to 15. Where it is taken, t is its table. c, l, w and o are
 // scratch, and have their room afterwards.
 pub fn accept(
     package: &[u8],
@@ -33,7 +33,7 @@ pub fn accept(
     let mut coefs = [0u32; 1024];
     let mut starts = [0u32; 1024];
     let mut lens = [0u8; 1024];
-    let mut firsts = [0usize; 130];
+    let mut firsts = [0usize; 98];
     let r = read_package(
         package,
         &mut kinds,
@@ -62,7 +62,7 @@ pub fn accept(
                 &lens,
                 package,
                 &firsts,
-                head.gens as usize + head.others as usize + 1,
+                head.gens as usize + 1,
                 head.basis as usize,
                 &mut heads,
                 &mut headlens,

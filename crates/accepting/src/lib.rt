@@ -1,4 +1,4 @@
-// A package's bytes, read and checked (document 01, 'Numbers and places'; document 02, P11): refusals 1 to 15, 28 and 29, or the package in its table.
+// A package's bytes, read and checked (document 01, 'Numbers and places'): refusals 1 to 15, or the package in its table.
 
 pub mod accept;
 

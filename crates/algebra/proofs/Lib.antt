@@ -2,7 +2,6 @@
 pub mod Coefficients
 pub mod Lines
 pub mod Sums
-pub mod TwoFamilies
 pub mod Leading
 pub mod Descent
 pub mod Apart

@@ -6,30 +6,27 @@ use Prim.Native.Nat.{ℕ, ◌+◌, ◌-◌, ◌≤◌, ◌<◌}
 use native.Mathlib.Decide.{ℕ_discrete}
 use native.Mathlib.Numerals.{add-one}
 use native.Mathlib.Omega.{arith}
-use lib.Dec.{lit<}
 use lib.ListN.{length, drop}
 use Rattle.lists.specs.All.{All, done, ◌also◌}
-use Rattle.lists.proofs.Every.{all_map}
 use Rattle.field.specs.Field.{Operations}
 use Rattle.words.specs.Order.{Order}
 use Rattle.algebra.specs.Ideal.{family}
-use Rattle.package.specs.Names.{sum_b, sum_c, sum_g, sum_h, sum_o}
+use Rattle.package.specs.Names.{sum_b, sum_g, sum_o}
 use Rattle.package.specs.Sums.{SumLine}
 use Rattle.acceptance.specs.Check.{Verdict, fine, then_judge, Side, sides, sums_judged, sums_verdict}
 use Rattle.sumlines.specs.Lines.{sums_at}
 use Rattle.sumorder.specs.Reached.{Past, Reached, SumsStart}
 use Rattle.sumorder.specs.Row.{row_verdict}
-use Rattle.sumorder.proofs.KindOrder.{KindOver, none_first, behind-last, reached_next}
+use Rattle.sumorder.proofs.KindOrder.{KindOver, none_first, basis-over, relations-over, reached_next}
 use Rattle.sumorder.proofs.Row.{then-refused, then-fine, sums_are, row_first, row-past}
-use Rattle.table.specs.Table.{field_in, order_in}
-use Rattle.table.specs.Polynomials.{relations_in, other_relations_in, basis_in}
-use Rattle.table.specs.Tabled.{Tabled}
+use Rattle.table.specs.Table.{gens_in, basis_count_in, field_in, order_in}
+use Rattle.table.specs.Polynomials.{relations_in, basis_in}
+use Rattle.table.proofs.Families.{polynomials-count}
 use Rattle.tablesums.specs.Heading.{head_in}
 use Rattle.kindsums.specs.declared.SumsAnswer.{SumsAnswer}
 use Rattle.kindsums.specs.declared.SumsAnswer.TheVariants.{Refused, Passed}
 use Rattle.kindsums.specs.Kinds.{side_in}
 use Rattle.kindsums.specs.Judged.{verdict_of, LeftBehind}
-use Rattle.kindsums.proofs.KindItems.{side_count}
 use Rattle.lapsums.specs.declared.Checked.{Checked}
 use Rattle.lapsums.specs.declared.Checked.TheVariants.{Rejected}
 use Rattle.lapsums.specs.Answer.{answer_of}
@@ -37,23 +34,38 @@ use Rattle.lapsums.proofs.Answers.{refused-answer}
 
 -- The sides from a kind on.
 abbrev left : List ℕ → ℕ → List Side
-left t kind = drop (kind - 1) (sides (relations_in t) (other_relations_in t) (basis_in t))
+left t kind = drop (kind - 1) (sides (relations_in t) (basis_in t))
 
--- One kind: its side is the first of those left, the others are of later kinds, and behind its last item the kind is over.
+-- One kind: its side is the first of those left, the others are of other kinds, and behind its last item the kind is over.
 record KindStep (t : List ℕ) (kind : ℕ) : Type 0 where
   front : left t kind ≡ side_in t kind ∷ left t (kind + 1)
   own : (side_in t kind).kind ≡ kind
-  later : All (λ s. kind < s.kind) (left t (kind + 1))
+  others : All (λ s. kind ≢ s.kind) (left t (kind + 1))
+  sums : kind ≢ sum_o
+  over : KindOver (head_in t) kind (length (side_in t kind).targets + 1)
 
-kind-step : (t : List ℕ) (kind : ℕ) → sum_b ≤ kind → kind < sum_o → KindStep t kind
+kind-step : (t : List ℕ) (kind : ℕ) → 1 ≤ kind → kind < 3 → KindStep t kind
 unfolding side_in
-kind-step t kind some most = go (ℕ_discrete kind sum_b) (ℕ_discrete kind sum_c) (ℕ_discrete kind sum_g)
+kind-step t kind some most = go (ℕ_discrete kind 1)
   where
-    go : Dec (kind ≡ sum_b) → Dec (kind ≡ sum_c) → Dec (kind ≡ sum_g) → KindStep t kind
-    go (yes e) c g = rw e (record { front = refl; own = refl; later = lit< tt also lit< tt also lit< tt also done })
-    go (no b) (yes e) g = rw e (record { front = refl; own = refl; later = lit< tt also lit< tt also done })
-    go (no b) (no c) (yes e) = rw e (record { front = refl; own = refl; later = lit< tt also done })
-    go (no b) (no c) (no g) = let e : kind ≡ sum_h = omega arith in rw e (record { front = refl; own = refl; later = done })
+    next : sum_b ≢ sum_g
+    next q = omega arith
+
+    go : Dec (kind ≡ 1) → KindStep t kind
+    go (yes e) = rw e (record {
+      front = refl;
+      own = refl;
+      others = next also done;
+      sums = λ q. omega arith;
+      over = rw (polynomials-count t (gens_in t + 1) (basis_count_in t)) (basis-over (head_in t));
+    })
+    go (no e) = let two : kind ≡ 2 = omega arith in rw two (record {
+      front = refl;
+      own = refl;
+      others = done;
+      sums = λ q. omega arith;
+      over = rw (polynomials-count t 1 (gens_in t)) (relations-over (head_in t));
+    })
 
 module _ (t bytes : List ℕ) (from first : ℕ) where
   abbrev K : Operations
@@ -64,42 +76,36 @@ module _ (t bytes : List ℕ) (from first : ℕ) where
 
   -- the verdict on all sums
   abbrev all : Verdict
-  all = sums_verdict K O (relations_in t) (other_relations_in t) (basis_in t) (sums_at bytes from first)
+  all = sums_verdict K O (relations_in t) (basis_in t) (sums_at bytes from first)
 
   -- The kinds below one passed: the row from there on, by the lines that are left, gives the verdict.
   pub record KindsDone (at line kind : ℕ) : Type 0 where
-    pub some : sum_b ≤ kind
-    pub most : kind ≤ sum_o
+    pub some : 1 ≤ kind
+    pub most : kind ≤ 3
     pub reached : Reached (head_in t) kind 1 bytes at line
     pub row : row_verdict K O (left t kind) (basis_in t) (sums_at bytes at line) ≡ all
 
-  pub kinds_start : SumsStart (head_in t) bytes from first → KindsDone from first sum_b
+  pub kinds_start : SumsStart (head_in t) bytes from first → KindsDone from first 1
   kinds_start r = record {
     some = omega arith;
     most = omega arith;
     reached = reached_next (head_in t) 0 0 (none_first (head_in t)) bytes from first r;
-    row = sym (sums_are K O (relations_in t) (other_relations_in t) (basis_in t) (sums_at bytes from first));
+    row = sym (sums_are K O (relations_in t) (basis_in t) (sums_at bytes from first));
   }
 
-  module _ (at line kind : ℕ) (d : KindsDone at line kind) (l : kind < sum_o) (r : SumsAnswer) where
+  module _ (at line kind : ℕ) (d : KindsDone at line kind) (l : kind < 3) (r : SumsAnswer) where
     abbrev ss : List SumLine
     ss = sums_at bytes at line
 
     -- the sums of the side, by the lines of a kind
     abbrev by : ℕ → Verdict
-    by k = sums_judged (side_in t kind).number k K O (family (side_in t kind).sources) ss (side_in t kind).targets 1
+    by k = sums_judged (side_in t kind).number k K O (family (side_in t kind).others) ss (side_in t kind).targets 1
 
     abbrev this : Verdict
     this = by kind
 
     step : KindStep t kind
     step = kind-step t kind d.some l
-
-    no_pair : kind ≢ sum_o
-    no_pair q = omega arith
-
-    over : Tabled t → KindOver (head_in t) kind (length (side_in t kind).targets + 1)
-    over T = rw (side_count t T kind) (behind-last (head_in t) kind no_pair)
 
     -- this kind, then the row behind it
     in_parts : then_judge this (row_verdict K O (left t (kind + 1)) (basis_in t) ss) ≡ all
@@ -115,26 +121,26 @@ module _ (t bytes : List ℕ) (from first : ℕ) where
       kinds_refused n k count q = refused-answer all n k count
           (sym in_parts ∙ then-refused this (row_verdict K O (left t (kind + 1)) (basis_in t) ss) n k (sym v ∙ ap verdict_of q))
 
-      pub kinds_next : Tabled t → (x n : ℕ) → r ≡ Passed x n → LeftBehind (head_in t) kind (length (side_in t kind).targets) bytes ss r → KindsDone x n (kind + 1)
+      pub kinds_next : (x n : ℕ) → r ≡ Passed x n → LeftBehind (head_in t) kind (length (side_in t kind).targets) bytes ss r → KindsDone x n (kind + 1)
       unfolding verdict_of LeftBehind
-      kinds_next T x n q b =
+      kinds_next x n q b =
           let (reached, p) : Reached (head_in t) kind (length (side_in t kind).targets + 1) bytes x n × Past kind ss (sums_at bytes x n) = rw q at b in
           let passed : this ≡ fine = sym v ∙ ap verdict_of q in
           record {
             some = omega arith;
             most = omega arith;
-            reached = rw (add-one kind) (reached_next (head_in t) kind (length (side_in t kind).targets + 1) (over T) bytes x n reached);
-            row = sym (row-past K O kind (left t (kind + 1)) (basis_in t) no_pair (all_map (λ s (l : kind < s.kind) q. omega arith) step.later) p)
+            reached = rw (add-one kind) (reached_next (head_in t) kind (length (side_in t kind).targets + 1) step.over bytes x n reached);
+            row = sym (row-past K O kind (left t (kind + 1)) (basis_in t) step.sums step.others p)
                 ∙ sym (then-fine this (row_verdict K O (left t (kind + 1)) (basis_in t) ss) passed) ∙ in_parts;
           }
 
   -- No kind is left: the first O line is reached, and what follows of the row answers.
-  module _ (at line kind : ℕ) (d : KindsDone at line kind) (l : sum_o ≤ kind) where
-    last : kind ≡ sum_o
-    last = let most = d.most in omega arith
+  module _ (at line kind : ℕ) (d : KindsDone at line kind) (l : 3 ≤ kind) where
+    three : kind ≡ 3
+    three = let most = d.most in omega arith
 
     pub kinds_behind : Reached (head_in t) sum_o 1 bytes at line
-    kinds_behind = rw last at d.reached
+    kinds_behind = rw three at d.reached
 
     pub kinds_end : (r : Checked) (count : ℕ) → r ≡ answer_of (row_verdict K O [] (basis_in t) (sums_at bytes at line)) count → r ≡ answer_of all count
-    kinds_end r count e = e ∙ ap (λ (v : Verdict). answer_of v count) (rw last at d.row)
+    kinds_end r count e = e ∙ ap (λ (v : Verdict). answer_of v count) (rw three at d.row)

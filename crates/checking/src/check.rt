@@ -1,5 +1,5 @@
-// The check's row: the kinds of sums in the order of documents 01 and 02, B items with 10 and 11, C items with 10 and 28, G items with 10 and 12, H items
-// with 10 and 29; then 15; then O items with 14, 10 and 13.
+// The check's row: the kinds of sums in document 01's order, B items with 10 and 11 and G items with 10 and 12; then 15; then O items with 14, 10
+// and 13.
 
 ghost use Rattle.std.specs.Prelude.{◌≡◌, length};
 ghost use Rattle.overlaps.specs.Overlaps.{leads, overlaps};
@@ -7,7 +7,7 @@ ghost use Rattle.acceptance.specs.Check.{sums_verdict};
 ghost use Rattle.sumlines.specs.Lines.{sums_at};
 ghost use Rattle.sumorder.specs.Reached.{SumsStart};
 ghost use Rattle.table.specs.Table.{field_in, order_in};
-ghost use Rattle.table.specs.Polynomials.{relations_in, other_relations_in, basis_in};
+ghost use Rattle.table.specs.Polynomials.{relations_in, basis_in};
 ghost use Rattle.table.specs.Tabled.{Tabled};
 ghost use Rattle.packedterms.specs.Formula.{Room};
 ghost use Rattle.tablesums.specs.Leading.{HeadsIn};
@@ -41,8 +41,8 @@ pub fn check(
     requires room { Room c.old l.old w.old o.old }
     ensures value { result
         ≡ answer_of
-        (sums_verdict (field_in t.now) (order_in t.now) (relations_in t.now) (other_relations_in t.now)
-        (basis_in t.now) (sums_at bytes.now from first))
+        (sums_verdict (field_in t.now) (order_in t.now) (relations_in t.now) (basis_in t.now)
+        (sums_at bytes.now from first))
         (length (overlaps (leads (basis_in t.now)))) }
     ensures room_2 { Room c.new l.new w.new o.new }
 {

@@ -1,13 +1,11 @@
 -- The numbers of a kind name the items of its targets and of the polynomials that its sums are over.
 use mathlib.Core.Path.{◌≡◌, refl, sym, ap, ap₂, ◌∙◌}
-use mathlib.Core.Logic.{◌≢◌}
+use mathlib.Core.Bool.{Bool, true, false}
 use mathlib.Core.List.{List, []}
-use Prim.Native.Nat.{ℕ, zero, suc, ◌+◌, ◌≤◌, ◌<◌}
-use native.Mathlib.Nat.{zero-add}
-use native.Mathlib.Decide.{ℕ_discrete, dec_lt}
+use Prim.Native.Nat.{ℕ, zero, suc, ◌+◌, ◌≤◌}
 use native.Mathlib.Omega.{arith}
+use lib.Dec.{eqb}
 use lib.ListN.{length}
-use borrow.Author.Tests.{lt-ltb, le-ltb, eq-eqb, ne_eqb}
 use Rattle.lists.specs.All.{All}
 use Rattle.text.specs.Pieces.{part}
 use Rattle.words.specs.Word.{Word}
@@ -18,23 +16,20 @@ use Rattle.algebra.specs.Written.{Written}
 use Rattle.algebra.proofs.Lines.{shift-nil}
 use Rattle.algebra.proofs.WrittenForm.{scale_one}
 use Rattle.working.proofs.Families.{family-written}
-use Rattle.package.specs.declared.Head.{Head}
-use Rattle.package.specs.Head.{has_others}
-use Rattle.package.specs.Names.{sum_b, sum_c, sum_g}
-use Rattle.package.specs.Sums.{sum_items, ofs}
-use Rattle.acceptance.specs.Check.{Side, other_targets}
-use Rattle.acceptance.proofs.OtherTargets.{targets-some, targets-none, targets-all}
+use Rattle.package.specs.Names.{sum_b}
+use Rattle.package.specs.Sums.{ofs}
+use Rattle.acceptance.specs.Check.{Side}
 use Rattle.sumlines.specs.declared.SumAt.{SumAt}
 use Rattle.sumlines.specs.Lines.{taken_line}
-use Rattle.table.specs.Table.{gens_in, others_in, base_in, basis_count_in, items_in, field_in, order_in}
-use Rattle.table.specs.Polynomials.{polynomial_in, relations_in, other_relations_in, basis_in}
+use Rattle.table.specs.Table.{gens_in, basis_count_in, items_in, field_in, order_in}
+use Rattle.table.specs.Polynomials.{polynomial_in, relations_in, basis_in}
 use Rattle.table.specs.Tabled.{Tabled}
 use Rattle.table.specs.Words.{line_of}
-use Rattle.table.proofs.Families.{polynomials-count, family-relations, family-others, family-basis}
+use Rattle.table.proofs.Families.{polynomials-count, family-relations, family-basis}
 use Rattle.packedterms.specs.Formula.{formula, Holds, Working}
 use Rattle.tablesums.specs.declared.Sizes.{Sizes}
 use Rattle.tablesums.specs.ShortWords.{ShortWord}
-use Rattle.tablesums.proofs.TakenLines.{without, without-basis, without_relation, without_other, line-packed}
+use Rattle.tablesums.proofs.TakenLines.{without, without-basis, without_relation, line-packed}
 use Rattle.tablesums.specs.Heading.{head_in}
 use Rattle.kindsums.specs.declared.KindNumbers.{KindNumbers}
 use Rattle.kindsums.specs.Kinds.{side_in, numbers_in}
@@ -44,163 +39,56 @@ pub record KindItems (t : List ℕ) (side : Side) (most : ℕ) (k : KindNumbers)
   pub number : k.number ≡ side.number
   pub count : k.count ≡ length side.targets
   pub few : k.count ≤ 64
+  pub low : k.others ≤ 32
   pub target : (item : ℕ) → 1 ≤ item → item ≤ k.count → family side.targets item ≡ polynomial_in t (k.targets + item)
   pub target_in : (item : ℕ) → item ≤ k.count → k.targets + item ≤ items_in t
-  pub source_in : (of : ℕ) → of ≤ most → k.sources + of ≤ items_in t
+  pub other_in : (of : ℕ) → of ≤ most → k.others + of ≤ items_in t
   pub written : All (Written (field_in t) (order_in t)) side.targets
   pub taken : (f : Poly) (x : ℕ) (z : Sizes) (left right : List ℕ) (of : ℕ) → 1 ≤ of → of ≤ most
-      → without t f x z left right (k.sources + of) ≡ take_away (field_in t) (order_in t) (family side.sources) f (line_of t x z.left left of z.right right)
-
--- How many C sums there are, by whether there is a second house.
-pub others-items : (h : Head) → 0 < h.others → sum_items h sum_c ≡ h.basis
-unfolding sum_items has_others
-others-items h l = rw (sum_items, has_others, lt-ltb 0 h.others l)
-
-pub none-items : (h : Head) → h.others ≤ 0 → sum_items h sum_c ≡ 0
-unfolding sum_items has_others
-none-items h l = rw (sum_items, has_others, le-ltb 0 h.others l)
-
--- How many sums of another kind there are.
-last-items : (h : Head) (kind : ℕ) → kind ≢ sum_b → kind ≢ sum_c → kind ≢ sum_g → sum_items h kind ≡ h.others
-unfolding sum_items
-last-items h kind b c g = rw (sum_items, ne_eqb kind sum_b b, ne_eqb kind sum_c c, ne_eqb kind sum_g g)
-
--- The numbers of each kind, by the numbers of the table.
-module _ (t : List ℕ) (kind : ℕ) where
-  pub b_numbers : kind ≡ sum_b → (count base : ℕ) → count ≡ basis_count_in t → base ≡ base_in t
-      → record { number = 11; count = count; targets = base; sources = 0 } ≡ numbers_in t kind
-  unfolding numbers_in sum_items
-  b_numbers k count base c b = rw (k, c, b)
-
-  pub c_numbers : kind ≡ sum_c → (count gens base : ℕ) → count ≡ sum_items (head_in t) sum_c → gens ≡ gens_in t → base ≡ base_in t
-      → record { number = 28; count = count; targets = base; sources = gens } ≡ numbers_in t kind
-  unfolding numbers_in
-  c_numbers k count gens base c g b = rw (k, c, g, b)
-
-  pub g_numbers : kind ≡ sum_g → (gens base : ℕ) → gens ≡ gens_in t → base ≡ base_in t
-      → record { number = 12; count = gens; targets = 0; sources = base } ≡ numbers_in t kind
-  unfolding numbers_in sum_items
-  g_numbers k gens base g b = rw (k, g, b)
-
-  pub h_numbers : kind ≢ sum_b → kind ≢ sum_c → kind ≢ sum_g → (count gens base : ℕ) → count ≡ others_in t → gens ≡ gens_in t → base ≡ base_in t
-      → record { number = 29; count = count; targets = gens; sources = base } ≡ numbers_in t kind
-  unfolding numbers_in
-  h_numbers x y z count gens base c g b =
-      rw (numbers_in, ne_eqb kind sum_b x, ne_eqb kind sum_c y, ne_eqb kind sum_g z, last-items (head_in t) kind x y z, c, g, b)
+      → without t f x z left right (k.others + of) ≡ take_away (field_in t) (order_in t) (family side.others) f (line_of t x z.left left of z.right right)
 
 module _ (t : List ℕ) (T : Tabled t) where
-  -- Numbers from 1 name the polynomials of each family.
-  by_number : (ps : List Poly) (base n : ℕ) → ((g : ℕ) → g < n → family ps (suc g) ≡ polynomial_in t (base + suc g))
-      → (item : ℕ) → 1 ≤ item → item ≤ n → family ps item ≡ polynomial_in t (base + item)
-  by_number ps base n f zero some most = absurd (omega arith)
-  by_number ps base n f (suc g) some most = f g (omega arith)
+  by_basis : (item : ℕ) → 1 ≤ item → item ≤ basis_count_in t → family (basis_in t) item ≡ polynomial_in t (gens_in t + item)
+  by_basis zero some most = absurd (omega arith)
+  by_basis (suc g) some most = family-basis t g (omega arith)
 
-  by_basis : (item : ℕ) → 1 ≤ item → item ≤ basis_count_in t → family (basis_in t) item ≡ polynomial_in t (base_in t + item)
-  by_basis = by_number (basis_in t) (base_in t) (basis_count_in t) (family-basis t)
-
-  by_other : (item : ℕ) → 1 ≤ item → item ≤ others_in t → family (other_relations_in t) item ≡ polynomial_in t (gens_in t + item)
-  by_other = by_number (other_relations_in t) (gens_in t) (others_in t) (family-others t)
-
-  by_relation : (item : ℕ) → 1 ≤ item → item ≤ gens_in t → family (relations_in t) item ≡ polynomial_in t (0 + item)
-  by_relation = by_number (relations_in t) 0 (gens_in t) (λ g l. family-relations t g l ∙ ap (polynomial_in t) (sym (zero-add (suc g))))
-
-  basis-count : length (basis_in t) ≡ basis_count_in t
-  basis-count = polynomials-count t (base_in t + 1) (basis_count_in t)
-
-  others-count : length (other_relations_in t) ≡ others_in t
-  others-count = polynomials-count t (gens_in t + 1) (others_in t)
-
-  -- The targets of C sums, n in all: those of the basis, or none.
-  record OtherItems (n : ℕ) (ts : List Poly) : Type 0 where
-    count : n ≡ length ts
-    few : n ≤ basis_count_in t
-    target : (item : ℕ) → 1 ≤ item → item ≤ n → family ts item ≡ polynomial_in t (base_in t + item)
-
-  other_items : OtherItems (sum_items (head_in t) sum_c) (other_targets (other_relations_in t) (basis_in t))
-  other_items = go (dec_lt 0 (others_in t))
-    where
-      go : Dec (0 < others_in t) → OtherItems (sum_items (head_in t) sum_c) (other_targets (other_relations_in t) (basis_in t))
-      go (yes l) =
-          rw (others-items (head_in t) l, targets-some (other_relations_in t) (basis_in t) (omega (arith, others-count)))
-          (record { count = sym basis-count; few = omega arith; target = by_basis })
-      go (no l) =
-          rw (none-items (head_in t) (omega arith), targets-none (other_relations_in t) (basis_in t) (omega (arith, others-count)))
-          (record { count = refl; few = omega arith; target = λ item some most. absurd (omega arith) })
-
-  -- Each kind.
-  b_items : KindItems t (side_in t sum_b) (ofs (head_in t) sum_b) (numbers_in t sum_b)
-  unfolding side_in numbers_in ofs sum_items
-  b_items = let few = T.basis in record {
-    number = refl;
-    count = sym basis-count;
-    few = few;
-    target = by_basis;
-    target_in = λ item l. omega arith;
-    source_in = λ of l. omega arith;
-    written = T.basis-written;
-    taken = λ f x z left right of some most. ap (without t f x z left right) (omega arith) ∙ without_relation t f x z left right of some most;
-  }
-
-  c_items : KindItems t (side_in t sum_c) (ofs (head_in t) sum_c) (numbers_in t sum_c)
-  unfolding side_in numbers_in ofs
-  c_items = let gens = T.gens in let few = T.basis in let o = other_items in let most = o.few in record {
-    number = refl;
-    count = o.count;
-    few = omega arith;
-    target = o.target;
-    target_in = λ item l. omega arith;
-    source_in = λ of l. omega arith;
-    written = targets-all (Written (field_in t) (order_in t)) (other_relations_in t) (basis_in t) T.basis-written;
-    taken = without_other t;
-  }
-
-  g_items : KindItems t (side_in t sum_g) (ofs (head_in t) sum_g) (numbers_in t sum_g)
-  unfolding side_in numbers_in ofs sum_items
-  g_items = let gens = T.gens in let others = T.others in record {
-    number = refl;
-    count = sym (polynomials-count t 1 (gens_in t));
-    few = omega arith;
-    target = by_relation;
-    target_in = λ item l. omega arith;
-    source_in = λ of l. omega arith;
-    written = T.relations-written;
-    taken = without-basis t;
-  }
-
-  h_items : (kind : ℕ) → kind ≢ sum_b → kind ≢ sum_c → kind ≢ sum_g → KindItems t (side_in t kind) (ofs (head_in t) kind) (numbers_in t kind)
-  unfolding side_in numbers_in ofs
-  h_items kind b c g = let gens = T.gens in let others = T.others in
-      rw (side_in, numbers_in, ofs, ne_eqb kind sum_b b, ne_eqb kind sum_c c, ne_eqb kind sum_g g, last-items (head_in t) kind b c g)
-      (record {
-        number = refl;
-        count = sym others-count;
-        few = omega arith;
-        target = by_other;
-        target_in = λ item l. omega arith;
-        source_in = λ of l. omega arith;
-        written = T.others-written;
-        taken = without-basis t;
-      })
+  by_relation : (item : ℕ) → 1 ≤ item → item ≤ gens_in t → family (relations_in t) item ≡ polynomial_in t item
+  by_relation zero some most = absurd (omega arith)
+  by_relation (suc g) some most = family-relations t g (omega arith)
 
   pub kind-items : (kind : ℕ) (k : KindNumbers) → k ≡ numbers_in t kind → KindItems t (side_in t kind) (ofs (head_in t) kind) k
-  kind-items kind k q = rw q (go (ℕ_discrete kind sum_b) (ℕ_discrete kind sum_c) (ℕ_discrete kind sum_g))
+  unfolding side_in numbers_in ofs
+  kind-items kind k q = go (eqb kind sum_b) refl
     where
-      go : Dec (kind ≡ sum_b) → Dec (kind ≡ sum_c) → Dec (kind ≡ sum_g) → KindItems t (side_in t kind) (ofs (head_in t) kind) (numbers_in t kind)
-      go (yes e) c g = rw e b_items
-      go (no b) (yes e) g = rw e c_items
-      go (no b) (no c) (yes e) = rw e g_items
-      go (no b) (no c) (no g) = h_items kind b c g
-
-  -- As many items as line 2 says of the kind.
-  pub side_count : (kind : ℕ) → length (side_in t kind).targets ≡ sum_items (head_in t) kind
-  unfolding numbers_in
-  side_count kind = sym (kind-items kind (numbers_in t kind) refl).count ∙ go (ℕ_discrete kind sum_b) (ℕ_discrete kind sum_c) (ℕ_discrete kind sum_g)
-    where
-      go : Dec (kind ≡ sum_b) → Dec (kind ≡ sum_c) → Dec (kind ≡ sum_g) → (numbers_in t kind).count ≡ sum_items (head_in t) kind
-      go (yes e) c g = rw (numbers_in, eq-eqb kind sum_b e)
-      go (no b) (yes e) g = rw (numbers_in, ne_eqb kind sum_b b, eq-eqb kind sum_c e)
-      go (no b) (no c) (yes e) = rw (numbers_in, ne_eqb kind sum_b b, ne_eqb kind sum_c c, eq-eqb kind sum_g e)
-      go (no b) (no c) (no g) = rw (numbers_in, ne_eqb kind sum_b b, ne_eqb kind sum_c c, ne_eqb kind sum_g g)
+      go : (b : Bool) → eqb kind sum_b ≡ b → KindItems t (side_in t kind) (ofs (head_in t) kind) k
+      go true e =
+          let few = T.basis in
+          rw (q, side_in, numbers_in, ofs, e)
+          (record {
+            number = refl;
+            count = sym (polynomials-count t (gens_in t + 1) (basis_count_in t));
+            few = few;
+            low = omega arith;
+            target = by_basis;
+            target_in = λ item l. omega arith;
+            other_in = λ of l. omega arith;
+            written = T.basis-written;
+            taken = λ f x z left right of some most. ap (without t f x z left right) (omega arith) ∙ without_relation t f x z left right of some most;
+          })
+      go false e =
+          let few = T.gens in
+          rw (q, side_in, numbers_in, ofs, e)
+          (record {
+            number = refl;
+            count = sym (polynomials-count t 1 (gens_in t));
+            few = omega arith;
+            low = few;
+            target = λ item some most. by_relation item some most ∙ ap (polynomial_in t) (omega arith);
+            target_in = λ item l. omega arith;
+            other_in = λ of l. omega arith;
+            written = T.relations-written;
+            taken = λ f x z left right of some most. without-basis t f x z left right of some most;
+          })
 
 module _ {t : List ℕ} {side : Side} {most : ℕ} {k : KindNumbers} (i : KindItems t side most k) where
   -- An item placed once between two empty words is the target.
@@ -219,8 +107,8 @@ module _ {t : List ℕ} {side : Side} {most : ℕ} {k : KindNumbers} (i : KindIt
   -- What `take_item` leaves, with the words that `pack_sides` packed, is the line in the bytes taken away.
   pub line_taken : (bytes : List ℕ) (s : SumAt) (z : Sizes) (left right : List ℕ)
       → ShortWord t (part bytes s.left s.leftlen) z.left left → ShortWord t (part bytes s.right s.rightlen) z.right right
-      → 1 ≤ s.of → s.of ≤ most → (f f' : Poly) → f' ≡ without t f s.coef z left right (k.sources + s.of)
-      → f' ≡ take_away (field_in t) (order_in t) (family side.sources) f (taken_line bytes s)
+      → 1 ≤ s.of → s.of ≤ most → (f f' : Poly) → f' ≡ without t f s.coef z left right (k.others + s.of)
+      → f' ≡ take_away (field_in t) (order_in t) (family side.others) f (taken_line bytes s)
   line_taken bytes s z left right l r some last f f' e =
       e ∙ i.taken f s.coef z left right s.of some last
-      ∙ ap (take_away (field_in t) (order_in t) (family side.sources) f) (line-packed t bytes s z left right l r)
+      ∙ ap (take_away (field_in t) (order_in t) (family side.others) f) (line-packed t bytes s z left right l r)

@@ -1,3 +1,3 @@
 -- What `judge_sums` is proved by: the numbers of a kind, and items and lines judged one after the other.
-pub mod KindItems
+mod KindItems
 mod SumsJudging

@@ -1,4 +1,4 @@
-// Refusals 10, 11, 12, 28 and 29: the sums of one kind.
+// Refusals 10, 11 and 12: the sums of one kind.
 
 ghost use Rattle.std.specs.Prelude.{◌≡◌, length};
 ghost use Rattle.algebra.specs.Ideal.{family};
@@ -39,7 +39,7 @@ pub fn judge_sums(
     requires arranged { Arranged o.old × Room c.old l.old w.old o.old }
     ensures result_value { verdict_of result
         ≡ sums_judged (side_in t.now kind).number kind (field_in t.now) (order_in t.now)
-        (family (side_in t.now kind).sources) (sums_at bytes.now from first) (side_in t.now kind).targets 1 }
+        (family (side_in t.now kind).others) (sums_at bytes.now from first) (side_in t.now kind).targets 1 }
     ensures left_behind { LeftBehind (head_in t.now) kind (length (side_in t.now kind).targets) bytes.now
         (sums_at bytes.now from first) result }
     ensures arranged_2 { Arranged o.new × Room c.new l.new w.new o.new }
@@ -64,7 +64,7 @@ pub fn judge_sums(
         while is_item(s, kind, item) {
             let z = pack_sides(t, bytes, s, &mut left, &mut right);
             let x = s.coef;
-            let j = k.sources + s.of;
+            let j = k.others + s.of;
             let a = z.left;
             let b = z.right;
             n = take_item(t, x, &left, a, j, 0, &right, b, c, l, w, o, n, 0, &mut buf);

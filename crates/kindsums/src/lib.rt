@@ -1,4 +1,4 @@
-// The sums of a kind on a package's table (refusals 10, 11, 12, 28 and 29): a labelled loop over the items of a kind and their lines, left from inside
+// The sums of a kind on a package's table (refusals 10, 11 and 12): a labelled loop over the items of a kind and their lines, left from inside
 // with number and place.
 
 pub mod judging;
@@ -18,5 +18,5 @@ pub struct KindNumbers {
     pub number: u32,
     pub count: usize,
     pub targets: usize,
-    pub sources: usize,
+    pub others: usize,
 }

@@ -28,7 +28,7 @@ use Rattle.sumlines.proofs.AboveCount.{above_low, items-later}
 use Rattle.sumorder.proofs.LineOrder.{overlaps_skip}
 use Rattle.sumorder.proofs.NextLine.{NextLine, next-line, lines_are, its_kind, next_fits, next_reached, next-item}
 use Rattle.sumorder.proofs.ItemJudging.{item_then, line-fails, line-over, line-more, item_wrong, item-right}
-use Rattle.table.specs.Table.{prime_in, base_in, basis_count_in, field_in, order_in}
+use Rattle.table.specs.Table.{prime_in, gens_in, basis_count_in, field_in, order_in}
 use Rattle.table.specs.Polynomials.{basis_in}
 use Rattle.table.specs.Words.{line_of}
 use Rattle.tablesums.specs.declared.Sizes.{Sizes}
@@ -134,7 +134,7 @@ module _ (t bytes : List ℕ) (ws : List Word) (whole : Verdict) (total : ℕ) (
             ap test (sym (line-packed t bytes s z left right l r))
             ∙ ap (λ (v : Word). is_under O G v (line_of t s.coef z.left left s.of z.right right)) (sym q) ∙ sym (h s.coef) ∙ e
 
-        pub line_taken : (j : ℕ) → j ≡ base_in t → taken t g s.coef z left right (j + s.of) ≡ take_away K O G g (taken_line bytes s)
+        pub line_taken : (j : ℕ) → j ≡ gens_in t → taken t g s.coef z left right (j + s.of) ≡ take_away K O G g (taken_line bytes s)
         line_taken j e =
             ap (λ (k : ℕ). taken t g s.coef z left right (k + s.of)) e
             ∙ without-basis t g s.coef z left right s.of line_names.0 line_names.1

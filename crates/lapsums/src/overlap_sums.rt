@@ -23,7 +23,7 @@ use overlapsearch::walking::{first_pair, pair_behind};
 use package::SUM_O;
 use sumlines::sum_line::{is_item, line_at};
 use table::Table;
-use table::numbers::{base_in, basis_in};
+use table::numbers::{basis_in, gens_in};
 use tablesums::lines::pack_sides;
 use tablesums::under::is_under;
 
@@ -53,7 +53,7 @@ pub fn judge_overlaps(
     ensures room { Room c.new l.new w.new o.new }
 {
     let count = basis_in(t);
-    let base = base_in(t);
+    let base = gens_in(t);
     let mut left = [0u64; 6];
     let mut right = [0u64; 6];
     let mut lap = [0u64; 9];

@@ -8,7 +8,7 @@ use Rattle.words.specs.Word.{Word}
 use Rattle.algebra.specs.Groebner.{lead}
 use Rattle.algebra.specs.Spot.{spot}
 use Rattle.working.specs.Working.{terms}
-use Rattle.table.specs.Table.{base_in, basis_count_in, first_in, letter_in}
+use Rattle.table.specs.Table.{gens_in, basis_count_in, first_in, letter_in}
 use Rattle.table.specs.Polynomials.{polynomial_in, polynomials_in, basis_in}
 use Rattle.table.specs.Tabled.{Tabled}
 use Rattle.leads.specs.LeadCodes.{codes_in, lead_codes_from, lead_codes_in}
@@ -36,7 +36,7 @@ module _ (t : List ℕ) where
   module _ (h : Tabled t) where
     -- the leading codes, in letters, are the leading words of the basis
     pub lead-codes_in_letters : map (map (letter_in t)) (lead_codes_in t) ≡ map lead (basis_in t)
-    lead-codes_in_letters = from_leads (base_in t + 1) (basis_count_in t) (λ i a b. item-begins t h i (omega arith) (omega arith))
+    lead-codes_in_letters = from_leads (gens_in t + 1) (basis_count_in t) (λ i a b. item-begins t h i (omega arith) (omega arith))
 
     -- Where no two codes that have P stand for one letter, and the words have such codes alone, the spot of the leading codes in a word of codes is
     -- the spot of the basis in the word of letters.

@@ -2,7 +2,7 @@
 use Rattle.std.specs.Prelude.{List, [], ◌∷◌, ℕ, zero, suc, ◌+◌, ◌%◌}
 use Rattle.words.specs.Word.{Word}
 use Rattle.packedwords.specs.Packed.{unpacked}
-use Rattle.table.specs.Table.{base_in, basis_count_in, first_in, size_in, blocks_in}
+use Rattle.table.specs.Table.{gens_in, basis_count_in, first_in, size_in, blocks_in}
 
 -- The codes of the word of term i.
 abbrev pub codes_in : List ℕ → ℕ → Word
@@ -15,4 +15,4 @@ lead_codes_from t j (suc n) = codes_in t (first_in t j) ∷ lead_codes_from t (s
 
 -- The leading words of the basis.
 abbrev pub lead_codes_in : List ℕ → List Word
-lead_codes_in t = lead_codes_from t (base_in t + 1) (basis_count_in t)
+lead_codes_in t = lead_codes_from t (gens_in t + 1) (basis_count_in t)

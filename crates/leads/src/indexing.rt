@@ -10,7 +10,7 @@ ghost use Rattle.leads.specs.LeadCodes.{lead_codes_in};
 
 use crate::masks::mark;
 use table::Table;
-use table::numbers::{base_in, basis_in, code_in, first_in, size_in};
+use table::numbers::{basis_in, code_in, first_in, gens_in, size_in};
 
 // The first n letters of term i are marked in their rows as those of word g, and its end in the row behind the last.
 fn mark_rows(t: &Table, i: usize, n: usize, g: usize, index: &mut [u64; 832])
@@ -66,7 +66,7 @@ pub fn index_leads(t: &Table, index: &mut [u64; 832])
     ensures { CodeIndexed (lead_codes_in t.now) index.new }
 {
     let n = basis_in(t);
-    let base = base_in(t) + 1;
+    let base = gens_in(t) + 1;
     let mut g = 0;
     while g < n {
         let i = first_in(t, base + g);

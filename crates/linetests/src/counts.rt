@@ -1,49 +1,19 @@
 // The value line of block 1: its shape, then refusal 3 for p, then 4 for the other counts.
 
-ghost use Rattle.std.specs.Prelude.{◌≡◌, ◌≤◌, length, drop};
+ghost use Rattle.std.specs.Prelude.{◌≡◌};
 ghost use Rattle.text.specs.Pieces.{fields};
-ghost use Rattle.package.specs.Head.{last_form, head_form, field_fits, others_fit, counts_fit};
-ghost use Rattle.package.specs.Held.{seen_last_of, seen_head};
+ghost use Rattle.package.specs.Head.{head_form, field_fits, counts_fit};
+ghost use Rattle.package.specs.Held.{seen_head};
 
 use field::prime::is_prime;
 use numberreading::number::{inner_number, last_number};
-use package::{Head, HeadRead, LastRead};
+use package::{Head, HeadRead};
 use text::bytes::is_within;
 use text::{Num, NumAt};
 
-// The last counts of the value line of block 1, which start at the place at: one number, or two with a second house.
-fn read_last(houses: bool, l: &[u8], at: usize) -> LastRead
-    requires { at ≤ length l.now }
-    ensures { seen_last_of result ≡ last_form houses (fields (drop at l.now)) }
-{
-    if houses {
-        let NumAt::Read {
-            value: others,
-            next: a,
-        } = inner_number(l, at)
-        else {
-            return LastRead::Misshapen;
-        };
-        let Num::Value(basis) = last_number(l, a) else {
-            return LastRead::Misshapen;
-        };
-        return LastRead::Counts {
-            others: others,
-            basis: basis,
-        };
-    }
-    let Num::Value(basis) = last_number(l, at) else {
-        return LastRead::Misshapen;
-    };
-    LastRead::Counts {
-        others: 0,
-        basis: basis,
-    }
-}
-
-// The value line of block 1: four numbers, or five with a second house.
-pub fn read_head(houses: bool, l: &[u8]) -> HeadRead
-    ensures { seen_head result ≡ head_form houses (fields l.now) }
+// The value line of block 1: four numbers.
+pub fn read_head(l: &[u8]) -> HeadRead
+    ensures { seen_head result ≡ head_form (fields l.now) }
 {
     let NumAt::Read { value: p, next: a } = inner_number(l, 0) else {
         return HeadRead::Misshapen;
@@ -62,14 +32,13 @@ pub fn read_head(houses: bool, l: &[u8]) -> HeadRead
     else {
         return HeadRead::Misshapen;
     };
-    let LastRead::Counts { others, basis } = read_last(houses, l, c) else {
+    let Num::Value(basis) = last_number(l, c) else {
         return HeadRead::Misshapen;
     };
     HeadRead::Counts {
         p: p,
         letters: letters,
         gens: gens,
-        others: others,
         basis: basis,
     }
 }
@@ -87,27 +56,14 @@ pub fn field_fits(p: u32) -> bool
     is_prime(p)
 }
 
-// Whether the number of a second house's relations is in bounds: it has some, or it is not there.
-fn others_fit(houses: bool, others: u32) -> bool
-    ensures { result ≡ others_fit houses others }
-{
-    if houses {
-        return is_within(1, 32, others);
-    }
-    others == 0
-}
-
 // Whether the other counts are in bounds.
-pub fn counts_fit(houses: bool, h: Head) -> bool
-    ensures { result ≡ counts_fit houses h }
+pub fn counts_fit(h: Head) -> bool
+    ensures { result ≡ counts_fit h }
 {
     if !is_within(1, 26, h.letters) {
         return false;
     }
     if 32 < h.gens {
-        return false;
-    }
-    if !others_fit(houses, h.others) {
         return false;
     }
     if 64 < h.basis {

@@ -2,7 +2,7 @@
 
 ghost use Rattle.std.specs.Prelude.{◌≡◌};
 ghost use Rattle.lists.specs.Same.{same};
-ghost use Rattle.package.specs.Names.{head_names, two_house_names, term_names, sum_names, formula_names};
+ghost use Rattle.package.specs.Names.{head_names, term_names, sum_names, formula_names};
 
 use text::bytes::is_same;
 
@@ -11,13 +11,6 @@ pub fn is_head_names(l: &[u8]) -> bool
     ensures { result ≡ same l.now head_names }
 {
     is_same(l, b"p letters gens basis")
-}
-
-// Whether a line is the names line of block 1 of a package with a second house.
-pub fn is_two_house_names(l: &[u8]) -> bool
-    ensures { result ≡ same l.now two_house_names }
-{
-    is_same(l, b"p letters gens others basis")
 }
 
 // Whether a line is the names line of block 2.

@@ -1,3 +1,2 @@
 -- What listing is proved by.
-mod BasisRead
 mod ListingAnswers

@@ -101,7 +101,7 @@ pub fn list_package(package: &[u8], out: &mut [u8]) -> Listed
     let mut coefs = [0u32; 1024];
     let mut starts = [0u32; 1024];
     let mut lens = [0u8; 1024];
-    let mut firsts = [0usize; 130];
+    let mut firsts = [0usize; 98];
     let r = read_package(
         package,
         &mut kinds,
@@ -124,7 +124,7 @@ pub fn list_package(package: &[u8], out: &mut [u8]) -> Listed
             &lens,
             package,
             &firsts,
-            head.gens as usize + head.others as usize + 1,
+            head.gens as usize + 1,
             head.basis as usize,
             out,
         ),

@@ -8,7 +8,6 @@ use lib.ListN.{length}
 use Rattle.package.proofs.LineBounds.{items-most, word-short}
 use Rattle.package.proofs.TermBlockTexts.{accepted}
 use Rattle.package.specs.Bounds.{coef_fits, word_fits_of}
-use Rattle.package.specs.Held.{InBounds}
 use Rattle.package.specs.Names.{term_g, term_b}
 use Rattle.package.specs.Terms.{items_of, term_fits, LineAbove, accept, judge_term}
 use Rattle.package.specs.declared.Head.{Head}
@@ -42,12 +41,12 @@ module _ (h : Head) (lim : Limits) (k i c : ℕ) (w : List ℕ) where
       go false u e = absurd (false≢true e)
 
 -- A line that is accepted is such a term.
-pub accepted-small : (h : Head) (lim : Limits) (a : LineAbove) (n : ℕ) (l : List ℕ) (k i c : ℕ) (w : List ℕ) → InBounds h
+pub accepted-small : (h : Head) (lim : Limits) (a : LineAbove) (n : ℕ) (l : List ℕ) (k i c : ℕ) (w : List ℕ) → h.gens ≤ 32 → h.basis ≤ 64
     → judge_term h lim a n l ≡ accept k i c w → SmallTerm lim.len k i w
-accepted-small h lim a n l k i c w b e =
+accepted-small h lim a n l k i c w g b e =
     let t = (accepted h lim a n l k i c w e).1 in
     record {
       kind = (within-bounds term_g term_b k t.ranked).1;
-      item = omega (arith, (within-bounds 1 (items_of h k) i (fit_item h lim k i c w t.fits)).1, items-most h k b);
+      item = omega (arith, (within-bounds 1 (items_of h k) i (fit_item h lim k i c w t.fits)).1, items-most h k g b);
       short = word-short lim.len h.letters w (fit_word h lim k i c w t.fits);
     }

@@ -11,15 +11,15 @@ use borrow.Author.Tests.{le-ltb, ltb-false}
 use Rattle.lists.proofs.Bools.{not_true}
 use Rattle.package.specs.Answer.{refused, read, ◌then◌}
 use Rattle.package.specs.Head.{HeadForm, no_head, head, head_form, field_fits, counts_fit}
-use Rattle.package.specs.Names.{head_names_of}
+use Rattle.package.specs.Names.{head_names}
 use Rattle.package.specs.NoField.{NoField}
-use Rattle.package.specs.Package.{package_limits, NamesBlock, head_names_line, CountsBlock, counts_judged, counts_line, term_names_line, head_lines_of, term_block, sum_block, sized, read_with, read_package}
+use Rattle.package.specs.Package.{package_limits, names_line, CountsBlock, counts_judged, counts_line, term_names_line, head_lines_of, term_block, sum_block, sized, read_with, read_package}
 use Rattle.package.specs.declared.Head.{Head}
 use Rattle.text.specs.Pieces.{Pieces, final, piece, lines, fields}
 use Rattle.package.proofs.Answers.{refused_not_read, read_injective}
 use Rattle.package.proofs.FieldNumbers.{fits_iff}
-use Rattle.package.proofs.HeadTexts.{head_names_text, text-head_names}
-use Rattle.package.proofs.ReadingNumbers.{Numbered, then-numbered, head_names_numbered, term_names_numbered, term-block-numbered, sum-block-numbered, size-numbered}
+use Rattle.package.proofs.HeadTexts.{names_text}
+use Rattle.package.proofs.ReadingNumbers.{Numbered, then-numbered, names_numbered, term_names_numbered, term-block-numbered, sum-block-numbered, size-numbered}
 
 sized-read : (bytes : List ℕ) → length bytes ≤ 65536 → sized bytes ≡ read (lines bytes)
 unfolding sized
@@ -42,16 +42,15 @@ module _ (bytes : List ℕ) where
   other n h e = absurd (h e)
 
   -- The second line: 3 is met by p alone.
-  counts_3 : (houses : Bool) (ps : Pieces) → length bytes ≤ 65536 → lines bytes ≡ piece (head_names_of houses) ps → Numbered OnlyNoField (counts_line houses ps)
+  counts_3 : (ps : Pieces) → length bytes ≤ 65536 → lines bytes ≡ piece head_names ps → Numbered OnlyNoField (counts_line ps)
   unfolding Numbered counts_line counts_judged
-  counts_3 houses (final x) size cut = other 2 (λ e. omega arith)
-  counts_3 houses (piece l ls) size cut = by_form (head_form houses (fields l)) refl
+  counts_3 (final x) size cut = other 2 (λ e. omega arith)
+  counts_3 (piece l ls) size cut = by_form (head_form (fields l)) refl
     where
-      by_tests : (h : Head) → head_form houses (fields l) ≡ head h → (t u : Bool) → field_fits h.p ≡ t
+      by_tests : (h : Head) → head_form (fields l) ≡ head h → (t u : Bool) → field_fits h.p ≡ t
           → Numbered OnlyNoField {A = CountsBlock} (elim t [ false ↦ refused 3 2 | true ↦ elim u [ false ↦ refused 4 2 | true ↦ read (record { head = h; rest = ls }) ] ])
       by_tests h q false u a = λ e. record {
         size = size;
-        houses = houses;
         second = l;
         rest = ls;
         cut = cut;
@@ -62,17 +61,17 @@ module _ (bytes : List ℕ) where
       by_tests h q true false a = other 4 (λ e. omega arith)
       by_tests h q true true a = tt
 
-      by_form : (f : HeadForm) → head_form houses (fields l) ≡ f → Numbered OnlyNoField (counts_judged houses f ls)
+      by_form : (f : HeadForm) → head_form (fields l) ≡ f → Numbered OnlyNoField (counts_judged f ls)
       by_form no_head q = other 2 (λ e. omega arith)
-      by_form (head h) q = by_tests h q (field_fits h.p) (counts_fit houses h) refl
+      by_form (head h) q = by_tests h q (field_fits h.p) (counts_fit h) refl
 
   head-lines_3 : (ls : Pieces) → sized bytes ≡ read ls → Numbered OnlyNoField (head_lines_of ls)
   unfolding head_lines_of
   head-lines_3 ls s =
       let (size, cut) = read-sized bytes ls s in
-      then-numbered OnlyNoField (head_names_line ls then (λ (b : NamesBlock). counts_line b.houses b.rest)) term_names_line
-      (then-numbered OnlyNoField (head_names_line ls) (λ (b : NamesBlock). counts_line b.houses b.rest)
-      (head_names_numbered OnlyNoField (other 2 (λ e. omega arith)) ls) (λ b x. counts_3 b.houses b.rest size (cut ∙ head_names_text ls b x)))
+      then-numbered OnlyNoField (names_line head_names 1 ls then counts_line) term_names_line
+      (then-numbered OnlyNoField (names_line head_names 1 ls) counts_line (names_numbered OnlyNoField (other 2 (λ e. omega arith)) head_names 1 ls)
+      (λ ms x. counts_3 ms size (cut ∙ names_text head_names 1 ls ms x)))
       (λ c _. term_names_numbered OnlyNoField (other 2 (λ e. omega arith)) c)
 
   pub read_3 : Numbered OnlyNoField (read_package bytes)
@@ -94,15 +93,15 @@ module _ (bytes : List ℕ) where
       six = other 6 (λ e. omega arith)
 
 -- The two first lines, where the second has the counts h and p means no field.
-head_3 : (houses : Bool) (second : List ℕ) (rest : Pieces) (h : Head) → head_form houses (fields second) ≡ head h → field_fits h.p ≡ false
-    → head_lines_of (piece (head_names_of houses) (piece second rest)) ≡ refused 3 2
-unfolding head_lines_of counts_line counts_judged ◌then◌
-head_3 houses second rest h q a = rw (text-head_names houses (piece second rest), counts_line, q, counts_judged, a)
+head_3 : (second : List ℕ) (rest : Pieces) (h : Head) → head_form (fields second) ≡ head h → field_fits h.p ≡ false
+    → head_lines_of (piece head_names (piece second rest)) ≡ refused 3 2
+unfolding head_lines_of names_line counts_line counts_judged ◌then◌
+head_3 second rest h q a = rw (counts_line, q, counts_judged, a)
 
 pub refused_3 : (bytes : List ℕ) → NoField bytes → read_package bytes ≡ refused 3 2
 unfolding read_package read_with ◌then◌
 refused_3 bytes n =
-    rw (sized-read bytes n.size, n.cut, head_3 n.houses n.second n.rest n.counts n.says no_fit)
+    rw (sized-read bytes n.size, n.cut, head_3 n.second n.rest n.counts n.says no_fit)
   where
     no_fit : field_fits n.counts.p ≡ false
     no_fit = not_true (field_fits n.counts.p) (λ q. n.none ((fits_iff n.counts.p).0 q))

@@ -11,8 +11,8 @@ use lib.ListN.{take}
 use borrow.Author.Tests.{lt-ltb, le-ltb, eq-eqb, ne_eqb, ltb-true, eqb-true}
 use Rattle.package.specs.Bounds.{coef_fits, word_fits_of}
 use Rattle.words.specs.Below.{is_below}
-use Rattle.package.specs.Items.{before_basis, slot, slots_of, first_of, item_run, item_terms}
-use Rattle.package.specs.Names.{term_g, term_h, term_b}
+use Rattle.package.specs.Items.{slot, slots_of, first_of, item_run, item_terms}
+use Rattle.package.specs.Names.{term_g, term_b}
 use Rattle.package.specs.Package.{Package, package_limits}
 use Rattle.package.specs.Readable.{under, TermsInOrder, no_terms, term_then, Readable}
 use Rattle.package.specs.Terms.{TermLine, items_of, term_fits, LineAbove, start, follows}
@@ -72,7 +72,7 @@ run-numbered h j b (t ∷ ts) (rises m r) = go (dec_lt (slot h t.kind t.item) j)
         let z : 0 - 0 ≡ 0 = omega arith in
         rw (a, c, numbered, ne_eqb (slot h t.kind t.item) j e) (sym (numbered-none h j (slot h t.kind t.item) ts (omega arith) r))
 
--- Kinds and items in range: the kind is one of block 2, and the item one of its kind.
+-- Kinds and items in range: the kind is G or B, and the item one of its kind.
 record InRange (h : Head) (k i : ℕ) : Type 0 where
   low : term_g ≤ k
   high : k ≤ term_b
@@ -91,66 +91,70 @@ in_range h lim k i c w r = go (within 1 (items_of h k) i) refl
         let b = within-bounds 1 (items_of h k) i e in
         record { low = a.0; high = a.1; first = b.0; last = b.1 }
 
--- The items of a kind are numbered on from those of the kinds before it.
-slot_from : (h : Head) (k i : ℕ) → slot h k i ≡ slot h k 0 + i
+slot_relation : (h : Head) (i : ℕ) → slot h term_g i ≡ i
 unfolding slot
-slot_from h k i = go (eqb k term_g) (eqb k term_h)
-  where
-    go : (t u : Bool) → (elim t [ true ↦ i | false ↦ elim u [ true ↦ h.gens + i | false ↦ before_basis h + i ] ])
-        ≡ (elim t [ true ↦ 0 | false ↦ elim u [ true ↦ h.gens + 0 | false ↦ before_basis h + 0 ] ]) + i
-    go true u = omega arith
-    go false true = omega arith
-    go false false = omega arith
+slot_relation h i = refl
 
-kind-before : (h : Head) (k k' : ℕ) → term_g ≤ k → k < k' → k' ≤ term_b → slot h k 0 + items_of h k ≤ slot h k' 0
-unfolding slot items_of
-kind-before h (suc zero) (suc (suc zero)) l m n = omega arith
-kind-before h (suc zero) (suc (suc (suc zero))) l m n = omega arith
-kind-before h (suc (suc zero)) (suc (suc (suc zero))) l m n = omega arith
-kind-before h zero k' l m n = absurd (omega arith)
-kind-before h (suc k) zero l m n = absurd (omega arith)
-kind-before h (suc k) (suc zero) l m n = absurd (omega arith)
-kind-before h (suc (suc k)) (suc (suc zero)) l m n = absurd (omega arith)
-kind-before h (suc (suc (suc k))) (suc (suc (suc zero))) l m n = absurd (omega arith)
-kind-before h (suc k) (suc (suc (suc (suc k')))) l m n = absurd (omega arith)
+slot-basis : (h : Head) (i : ℕ) → slot h term_b i ≡ h.gens + i
+unfolding slot
+slot-basis h i = refl
 
-kind-last : (h : Head) (k : ℕ) → term_g ≤ k → k ≤ term_b → slot h k 0 + items_of h k ≤ before_basis h + h.basis
-unfolding slot items_of
-kind-last h zero l m = absurd (omega arith)
-kind-last h (suc zero) l m = omega arith
-kind-last h (suc (suc zero)) l m = omega arith
-kind-last h (suc (suc (suc zero))) l m = omega arith
-kind-last h (suc (suc (suc (suc k)))) l m = absurd (omega arith)
+relation_items : (h : Head) → items_of h term_g ≡ h.gens
+unfolding items_of
+relation_items h = refl
+
+relation_or_basis : (k : ℕ) → term_g ≤ k → k ≤ term_b → (k ≡ term_g) ⊎ (k ≡ term_b)
+relation_or_basis zero l u = absurd (omega arith)
+relation_or_basis (suc zero) l u = inl refl
+relation_or_basis (suc (suc zero)) l u = inr refl
+relation_or_basis (suc (suc (suc k))) l u = absurd (omega arith)
+
+basis-items : (h : Head) → items_of h term_b ≡ h.basis
+unfolding items_of
+basis-items h = refl
 
 -- No item has a number above that of the last one.
-pub slot-most : (h : Head) (k i : ℕ) → within term_g term_b k ≡ true → within 1 (items_of h k) i ≡ true → slot h k i ≤ before_basis h + h.basis
-slot-most h k i a b =
-    let (l, m) = within-bounds term_g term_b k a in
-    omega (arith, slot_from h k i, kind-last h k l m, (within-bounds 1 (items_of h k) i b).1)
-
--- Items of a lower kind have lower numbers.
-slot-below : (h : Head) (k i k' i' : ℕ) → InRange h k i → InRange h k' i' → k < k' → slot h k i < slot h k' i'
-slot-below h k i k' i' a b l =
-    let last = a.last in
-    let first = b.first in
-    omega (arith, slot_from h k i, slot_from h k' i', kind-before h k k' a.low l b.high)
+pub slot-most : (h : Head) (k i : ℕ) → within term_g term_b k ≡ true → within 1 (items_of h k) i ≡ true → slot h k i ≤ h.gens + h.basis
+slot-most h k i a b = go (relation_or_basis k (within-bounds term_g term_b k a).0 (within-bounds term_g term_b k a).1) (within-bounds 1 (items_of h k) i b).1
+  where
+    go : (k ≡ term_g) ⊎ (k ≡ term_b) → i ≤ items_of h k → slot h k i ≤ h.gens + h.basis
+    go (inl p) l = let z : i ≤ h.gens = rw (p, relation_items) at l in rw (p, slot_relation) (omega arith)
+    go (inr p) l = let z : i ≤ h.basis = rw (p, basis-items) at l in rw (p, slot-basis) (omega arith)
 
 -- Items are numbered in the order of kinds and items.
 slot-order : (h : Head) (k i k' i' : ℕ) → InRange h k i → InRange h k' i' → ((k < k') ⊎ ((k ≡ k') × (i ≤ i'))) → slot h k i ≤ slot h k' i'
-slot-order h k i k' i' a b (inl l) = omega (arith, slot-below h k i k' i' a b l)
-slot-order h k i k' i' a b (inr (e, l)) = rw e (omega (arith, slot_from h k' i, slot_from h k' i'))
+slot-order h k i k' i' a b o = go (relation_or_basis k a.low a.high) (relation_or_basis k' b.low b.high) o
+  where
+    go : (k ≡ term_g) ⊎ (k ≡ term_b) → (k' ≡ term_g) ⊎ (k' ≡ term_b) → ((k < k') ⊎ ((k ≡ k') × (i ≤ i'))) → slot h k i ≤ slot h k' i'
+    go (inl p) (inl q) (inl l) = absurd (omega arith)
+    go (inl p) (inl q) (inr l) = rw (p, q, slot_relation, slot_relation) l.1
+    go (inl p) (inr q) o =
+        let z : i ≤ h.gens = rw (p, relation_items) at a.last in
+        rw (p, q, slot_relation, slot-basis) (omega arith)
+    go (inr p) (inl q) (inl l) = absurd (omega arith)
+    go (inr p) (inl q) (inr l) = absurd (omega (arith, l.0))
+    go (inr p) (inr q) (inl l) = absurd (omega arith)
+    go (inr p) (inr q) (inr l) = let z = l.1 in rw (p, q, slot-basis, slot-basis) (omega arith)
 
 -- No two items have one number.
 slot-own : (h : Head) (k i k' i' : ℕ) → InRange h k i → InRange h k' i' → slot h k i ≡ slot h k' i' → (k ≡ k') × (i ≡ i')
-slot-own h k i k' i' a b e = go (dec_lt k k') (dec_lt k' k)
+slot-own h k i k' i' a b e = go (relation_or_basis k a.low a.high) (relation_or_basis k' b.low b.high)
   where
-    go : Dec (k < k') → Dec (k' < k) → (k ≡ k') × (i ≡ i')
-    go (yes l) d = absurd (omega (arith, slot-below h k i k' i' a b l))
-    go (no l) (yes m) = absurd (omega (arith, slot-below h k' i' k i b a m))
-    go (no l) (no m) =
-        let q : k ≡ k' = omega arith in
-        let z : slot h k i ≡ slot h k i' = e ∙ ap (λ (x : ℕ). slot h x i') (sym q) in
-        (q, omega (arith, slot_from h k i, slot_from h k i'))
+    go : (k ≡ term_g) ⊎ (k ≡ term_b) → (k' ≡ term_g) ⊎ (k' ≡ term_b) → (k ≡ k') × (i ≡ i')
+    go (inl p) (inl q) = (p ∙ sym q, rw (p, q, slot_relation, slot_relation) at e)
+    go (inl p) (inr q) =
+        let z : i ≤ h.gens = rw (p, relation_items) at a.last in
+        let y : i ≡ h.gens + i' = rw (p, q, slot_relation, slot-basis) at e in
+        let f = b.first in
+        absurd (omega arith)
+    go (inr p) (inl q) =
+        let z : i' ≤ h.gens = rw (q, relation_items) at b.last in
+        let y : h.gens + i ≡ i' = rw (p, q, slot-basis, slot_relation) at e in
+        let f = a.first in
+        absurd (omega arith)
+    go (inr p) (inr q) =
+        let y : h.gens + i ≡ h.gens + i' = rw (p, q, slot-basis, slot-basis) at e in
+        (p ∙ sym q, omega arith)
 
 -- A line that follows has no lower kind, and in one kind no lower item.
 follows-order : (a : LineAbove) (k i : ℕ) (w : List ℕ) → follows a k i w ≡ true → (a.kind < k) ⊎ ((a.kind ≡ k) × (a.item ≤ i))

@@ -1,6 +1,6 @@
 -- The head lines and the blocks in a row: one law for each way through the reader, and what the answers of its parts say.
 use mathlib.Core.Path.{◌≡◌, sym, ap, ◌∙◌}
-use mathlib.Core.Bool.{Bool, true, false}
+use mathlib.Core.Bool.{true, false}
 use mathlib.Core.List.{List, []}
 use Prim.Native.Nat.{ℕ, ◌+◌, ◌-◌, ◌≤◌, ◌<◌}
 use native.Mathlib.Omega.{arith}
@@ -10,9 +10,9 @@ use Rattle.package.proofs.HeadTexts.{head-lines-text}
 use Rattle.package.proofs.TermBlockTexts.{block2-text}
 use Rattle.package.specs.Answer.{Answer, refused, read, ◌then◌}
 use Rattle.package.specs.Head.{no_head, head, head_form, field_fits, counts_fit}
-use Rattle.package.specs.Held.{seen_names, seen_head_names, seen_counts, seen_head_lines, held_terms, seen_terms, seen_sums}
-use Rattle.package.specs.Names.{head_names, two_house_names, term_names}
-use Rattle.package.specs.Package.{names_line, NamesBlock, head_names_line, CountsBlock, counts_judged, counts_line, HeadBlock, first_term, first_sum, term_names_line, head_lines_of, term_block, sum_block, sized, read_with}
+use Rattle.package.specs.Held.{seen_names, seen_counts, seen_head_lines, held_terms, seen_terms, seen_sums}
+use Rattle.package.specs.Names.{head_names, term_names}
+use Rattle.package.specs.Package.{names_line, CountsBlock, counts_judged, counts_line, HeadBlock, first_term, first_sum, term_names_line, head_lines_of, term_block, sum_block, sized, read_with}
 use Rattle.package.specs.Sums.{sums_read, block3, sums_of}
 use Rattle.package.specs.Terms.{start, TermBlock, terms_read, block2}
 use Rattle.package.specs.declared.CountsAt.{CountsAt}
@@ -20,7 +20,6 @@ use Rattle.package.specs.declared.CountsRead.{CountsRead}
 use Rattle.package.specs.declared.Head.{Head}
 use Rattle.package.specs.declared.HeadAt.{HeadAt}
 use Rattle.package.specs.declared.HeadEnded.{HeadEnded}
-use Rattle.package.specs.declared.HeadNamesRead.{HeadNamesRead}
 use Rattle.package.specs.declared.Limits.{Limits}
 use Rattle.package.specs.declared.NamesRead.{NamesRead}
 use Rattle.package.specs.declared.Refusal.{Refusal}
@@ -40,15 +39,6 @@ module _ (s : List ℕ) (n : ℕ) (r : NamesRead) (x : Answer Pieces) where
   pub seen_next : (e : ℕ) → r ≡ NamesRead.Next e → seen_names s n r ≡ x → x ≡ read (lines (drop e s))
   unfolding seen_names
   seen_next e q h = sym h ∙ rw q
-
-module _ (s : List ℕ) (r : HeadNamesRead) (x : Answer NamesBlock) where
-  pub seen_no_names : r ≡ HeadNamesRead.Misshapen → seen_head_names s r ≡ x → x ≡ refused 2 1
-  unfolding seen_head_names
-  seen_no_names q h = sym h ∙ rw q
-
-  pub seen_names_lem : (houses : Bool) (e : ℕ) → r ≡ HeadNamesRead.Next houses e → seen_head_names s r ≡ x → x ≡ read (record { houses = houses; rest = lines (drop e s) })
-  unfolding seen_head_names
-  seen_names_lem houses e q h = sym h ∙ rw q
 
 module _ (s : List ℕ) (r : CountsRead) (x : Answer CountsBlock) where
   pub counts-refused : (v : Refusal) → r ≡ CountsRead.Refused v → seen_counts s r ≡ x → x ≡ refused v.number v.place
@@ -103,64 +93,43 @@ module _ (names : List ℕ) (n : ℕ) (s : List ℕ) (at e : ℕ) (q : e ≡ at 
     unfolding names_line
     names_same m = rw (cut-more 10 s at e q z, names_line, m)
 
--- Line 1, without a second house and with one.
-module _ (s : List ℕ) (at e : ℕ) (q : e ≡ at + stop 10 (drop at s)) where
-  pub head_names_missing : length s ≤ e → refused 2 1 ≡ head_names_line (lines (drop at s))
-  unfolding head_names_line
-  head_names_missing z = rw (cut-end 10 s at e q z)
-
-  module _ (z : e < length s) where
-    pub head_names_one : same (part s at (e - at)) head_names ≡ true → read (record { houses = false; rest = lines (drop (e + 1) s) }) ≡ head_names_line (lines (drop at s))
-    unfolding head_names_line
-    head_names_one m = rw (cut-more 10 s at e q z, head_names_line, m)
-
-    module _ (m : same (part s at (e - at)) head_names ≡ false) where
-      pub head_names_two : same (part s at (e - at)) two_house_names ≡ true
-          → read (record { houses = true; rest = lines (drop (e + 1) s) }) ≡ head_names_line (lines (drop at s))
-      unfolding head_names_line
-      head_names_two n = rw (cut-more 10 s at e q z, head_names_line, m, n)
-
-      pub head_names_other : same (part s at (e - at)) two_house_names ≡ false → refused 2 1 ≡ head_names_line (lines (drop at s))
-      unfolding head_names_line
-      head_names_other n = rw (cut-more 10 s at e q z, head_names_line, m, n)
-
 -- The counts.
-module _ (houses : Bool) (s : List ℕ) (at e : ℕ) (q : e ≡ at + stop 10 (drop at s)) where
-  pub counts_missing : length s ≤ e → refused 2 2 ≡ counts_line houses (lines (drop at s))
+module _ (s : List ℕ) (at e : ℕ) (q : e ≡ at + stop 10 (drop at s)) where
+  pub counts_missing : length s ≤ e → refused 2 2 ≡ counts_line (lines (drop at s))
   unfolding counts_line
   counts_missing z = rw (cut-end 10 s at e q z)
 
   module _ (z : e < length s) where
-    pub counts_wrong : head_form houses (fields (part s at (e - at))) ≡ no_head → refused 2 2 ≡ counts_line houses (lines (drop at s))
+    pub counts_wrong : head_form (fields (part s at (e - at))) ≡ no_head → refused 2 2 ≡ counts_line (lines (drop at s))
     unfolding counts_line counts_judged
     counts_wrong m = rw (cut-more 10 s at e q z, counts_line, m)
 
-    module _ (h : Head) (m : head_form houses (fields (part s at (e - at))) ≡ head h) where
-      pub counts_3 : field_fits h.p ≡ false → refused 3 2 ≡ counts_line houses (lines (drop at s))
+    module _ (h : Head) (m : head_form (fields (part s at (e - at))) ≡ head h) where
+      pub counts_3 : field_fits h.p ≡ false → refused 3 2 ≡ counts_line (lines (drop at s))
       unfolding counts_line counts_judged
       counts_3 a = rw (cut-more 10 s at e q z, counts_line, m, counts_judged, a)
 
       module _ (a : field_fits h.p ≡ true) where
-        pub counts_4 : counts_fit houses h ≡ false → refused 4 2 ≡ counts_line houses (lines (drop at s))
+        pub counts_4 : counts_fit h ≡ false → refused 4 2 ≡ counts_line (lines (drop at s))
         unfolding counts_line counts_judged
         counts_4 b = rw (cut-more 10 s at e q z, counts_line, m, counts_judged, a, b)
 
-        pub counts-right : counts_fit houses h ≡ true → read (record { head = h; rest = lines (drop (e + 1) s) }) ≡ counts_line houses (lines (drop at s))
+        pub counts-right : counts_fit h ≡ true → read (record { head = h; rest = lines (drop (e + 1) s) }) ≡ counts_line (lines (drop at s))
         unfolding counts_line counts_judged
         counts-right b = rw (cut-more 10 s at e q z, counts_line, m, counts_judged, a, b)
 
 -- Lines 1 to 3.
 module _ (ls : Pieces) where
-  pub line1_refused : (v n : ℕ) → head_names_line ls ≡ refused v n → refused v n ≡ head_lines_of ls
+  pub line1_refused : (v n : ℕ) → names_line head_names 1 ls ≡ refused v n → refused v n ≡ head_lines_of ls
   unfolding head_lines_of ◌then◌
   line1_refused v n e = rw (head_lines_of, e)
 
-  module _ (b : NamesBlock) (e : head_names_line ls ≡ read b) where
-    pub line2_refused : (v n : ℕ) → counts_line b.houses b.rest ≡ refused v n → refused v n ≡ head_lines_of ls
+  module _ (ms : Pieces) (e : names_line head_names 1 ls ≡ read ms) where
+    pub line2_refused : (v n : ℕ) → counts_line ms ≡ refused v n → refused v n ≡ head_lines_of ls
     unfolding head_lines_of ◌then◌
     line2_refused v n f = rw (head_lines_of, e, f)
 
-    module _ (c : CountsBlock) (f : counts_line b.houses b.rest ≡ read c) where
+    module _ (c : CountsBlock) (f : counts_line ms ≡ read c) where
       pub line3_refused : (v n : ℕ) → names_line term_names 3 c.rest ≡ refused v n → refused v n ≡ head_lines_of ls
       unfolding head_lines_of term_names_line ◌then◌
       line3_refused v n g = rw (head_lines_of, e, f, term_names_line, g)

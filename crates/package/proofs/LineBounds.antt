@@ -7,11 +7,10 @@ use native.Mathlib.Omega.{arith}
 use lib.Dec.{ltb, eqb}
 use lib.ListN.{length}
 use borrow.Author.Tests.{ltb-true, ltb-false}
-use Rattle.package.proofs.CountsLine.{counts_fit_lem}
+use Rattle.package.proofs.CountsLine.{counts-bounds}
 use Rattle.package.specs.Bounds.{coef_fits, word_fits_of}
-use Rattle.package.specs.Head.{field_fits, has_others, counts_fit}
-use Rattle.package.specs.Held.{InBounds}
-use Rattle.package.specs.Names.{term_g, term_h, sum_b, sum_c}
+use Rattle.package.specs.Head.{field_fits, counts_fit}
+use Rattle.package.specs.Names.{term_g, sum_b}
 use Rattle.package.specs.Sums.{sum_item_fits, ofs, sum_fits}
 use Rattle.package.specs.Terms.{items_of, term_fits}
 use Rattle.package.specs.declared.Head.{Head}
@@ -23,10 +22,14 @@ use Rattle.package.proofs.FieldNumbers.{fits_iff, means_most}
 -- The counts of a package that reads.
 pub record HeadBounds (h : Head) : Type 0 where
   pub most : h.p ≤ 65521
-  pub counts : InBounds h
+  pub letters : h.letters ≤ 26
+  pub gens : h.gens ≤ 32
+  pub basis : h.basis ≤ 64
 
-pub head-bounds : (h : Head) → field_fits h.p ≡ true → counts_fit (has_others h) h ≡ true → HeadBounds h
-head-bounds h a b = record { most = means_most h.p ((fits_iff h.p).0 a); counts = (counts_fit_lem (has_others h) h b).0 }
+pub head-bounds : (h : Head) → field_fits h.p ≡ true → counts_fit h ≡ true → HeadBounds h
+head-bounds h a b =
+    let c = counts-bounds h b in
+    record { most = means_most h.p ((fits_iff h.p).0 a); letters = c.0; gens = c.1; basis = c.2 }
 
 -- Coefficients and words in bounds.
 pub coef-below : (p c : ℕ) → coef_fits p c ≡ true → c < p
@@ -54,14 +57,13 @@ word-letters most letters w l = go (ltb most (length w))
     go false h = all_wider 97 (96 + letters) 122 w (omega arith) h
 
 -- The items of a kind.
-pub items-most : (h : Head) (k : ℕ) → InBounds h → items_of h k ≤ 64
+pub items-most : (h : Head) (k : ℕ) → h.gens ≤ 32 → h.basis ≤ 64 → items_of h k ≤ 64
 unfolding items_of
-items-most h k b = go (eqb k term_g) (eqb k term_h)
+items-most h k g b = go (eqb k term_g)
   where
-    go : (t u : Bool) → (elim t [ true ↦ h.gens | false ↦ elim u [ true ↦ h.others | false ↦ h.basis ] ]) ≤ 64
-    go true u = let g = b.gens in omega arith
-    go false true = let o = b.others in omega arith
-    go false false = b.basis
+    go : (t : Bool) → (elim t [ true ↦ h.gens | false ↦ h.basis ]) ≤ 64
+    go true = omega arith
+    go false = b
 
 -- A term line in bounds.
 pub record TermNumbers (i c : ℕ) (w : List ℕ) : Type 0 where
@@ -79,12 +81,12 @@ term_numbers h lim k i c w b = go (within 1 (items_of h k) i) (coef_fits h.p c) 
     go true false x y e = absurd (false≢true e)
     go true true x y e =
         let n = within-bounds 1 (items_of h k) i x in
-        let m = items-most h k b.counts in
+        let m = items-most h k b.gens b.basis in
         let q = b.most in
         record {
           item = omega (arith, n.1);
           coef = omega (arith, coef-below h.p c y);
-          letters = word-letters lim.len h.letters w b.counts.letters e;
+          letters = word-letters lim.len h.letters w b.letters e;
         }
 
 -- A sum line in bounds.
@@ -96,12 +98,11 @@ pub record SumNumbers (c : ℕ) (l : List ℕ) (o : ℕ) (r : List ℕ) : Type 0
 
 ofs-most : (h : Head) (k : ℕ) → HeadBounds h → ofs h k ≤ 64
 unfolding ofs
-ofs-most h k b = go (eqb k sum_b) (eqb k sum_c)
+ofs-most h k b = go (eqb k sum_b)
   where
-    go : (t u : Bool) → (elim t [ true ↦ h.gens | false ↦ elim u [ true ↦ h.others | false ↦ h.basis ] ]) ≤ 64
-    go true u = let g = b.counts.gens in omega arith
-    go false true = let o = b.counts.others in omega arith
-    go false false = b.counts.basis
+    go : (t : Bool) → (elim t [ true ↦ h.gens | false ↦ h.basis ]) ≤ 64
+    go true = let g = b.gens in omega arith
+    go false = b.basis
 
 pub sum_numbers : (h : Head) (lim : Limits) (k i c : ℕ) (l : List ℕ) (o : ℕ) (r : List ℕ) → HeadBounds h → sum_fits h lim k i c l o r ≡ true → SumNumbers c l o r
 unfolding sum_fits
@@ -120,7 +121,7 @@ sum_numbers h lim k i c l o r b = go (sum_item_fits h k i) (coef_fits h.p c) (wi
         let q = b.most in
         record {
           coef = omega (arith, coef-below h.p c x);
-          lefts = word-letters lim.len h.letters l b.counts.letters z;
+          lefts = word-letters lim.len h.letters l b.letters z;
           of = omega (arith, n.1);
-          rights = word-letters lim.len h.letters r b.counts.letters e;
+          rights = word-letters lim.len h.letters r b.letters e;
         }

@@ -17,21 +17,20 @@ use Rattle.package.proofs.SumBlockTexts.{block3-text}
 use Rattle.package.proofs.TermBlockTexts.{block2-text}
 use Rattle.package.proofs.WrittenBlocks.{text-block2, text-block3, terms-clear, sums-clear}
 use Rattle.package.specs.Answer.{read, ◌then◌}
-use Rattle.package.specs.Head.{has_others}
-use Rattle.package.specs.Names.{head_names_of, term_names, sum_names}
+use Rattle.package.specs.Names.{head_names, term_names, sum_names}
 use Rattle.package.specs.Package.{Package, package_limits, HeadBlock, first_term, first_sum, head_lines_of, term_block, sum_block, sized, read_with, read_package}
 use Rattle.package.specs.Readable.{SumsInOrder, Readable}
 use Rattle.package.specs.Sums.{SumLine, block3, sums_of}
 use Rattle.package.specs.Terms.{TermLine, start, TermBlock}
-use Rattle.package.specs.Writing.{head_lines_of, term_lines_of, sum_lines_of, package_lines, write_package}
+use Rattle.package.specs.Writing.{head_fields, term_lines_of, sum_lines_of, package_lines, write_package}
+use Rattle.package.specs.declared.Head.{Head}
 use Rattle.text.proofs.PieceTexts.{joined-pieces, lines-written, without-final}
-use Rattle.text.specs.Pieces.{Pieces, piece, onto, pieces, lines, write_lines, Without, Clear, clears}
+use Rattle.text.specs.Pieces.{Pieces, piece, onto, pieces, lines, write_fields, write_lines, Without, Clear, clears}
 
 -- Names lines hold no byte 10.
-head_names_clear : (houses : Bool) → Without 10 (head_names_of houses)
-unfolding pieces onto head_names_of
-head_names_clear false = without-final (head_names_of false) refl
-head_names_clear true = without-final (head_names_of true) refl
+head_names_clear : Without 10 head_names
+unfolding pieces onto
+head_names_clear = without-final head_names refl
 
 term_names_clear : Without 10 term_names
 unfolding pieces onto
@@ -47,10 +46,10 @@ module _ (P : Package) (r : Readable P) where
   bounds = head-bounds P.head r.field r.counts
 
   package_clear : Clear 10 (package_lines P)
-  unfolding package_lines head_lines_of
+  unfolding package_lines
   package_clear =
-      clears (head_names_clear (has_others P.head))
-      (clears (head-line-clear P.head bounds (has_others P.head))
+      clears head_names_clear
+      (clears (head-line-clear P.head bounds)
       (clears term_names_clear
       (terms-clear P.head package_limits bounds start 0 P.terms r.terms
       (clears sum_names_clear (sums-clear P.head package_limits bounds 0 0 (first_sum (length P.terms)) P.sums r.sums)))))
@@ -97,7 +96,7 @@ module _ (s : List ℕ) (b : HeadBlock) (t : TermBlock) (small : length s ≤ 65
       let l : t.line ≡ first_sum (length t.terms) = omega (arith, A.line, B.line) in
       let rest : b.rest ≡ term_lines_of t.terms (piece sum_names (sum_lines_of (sums_of t.line t.rest))) =
       B.cut ∙ ap₂ (λ (ts : List TermLine) (ms : Pieces). term_lines_of ts (piece sum_names ms)) (sym B.terms) C.cut in
-      let cut = A.cut ∙ ap₂ head_lines_of (sym B.head) rest in (
+      let cut = A.cut ∙ ap₂ (λ (h : Head) (ms : Pieces). piece head_names (piece (write_fields (head_fields h)) (piece term_names ms))) (sym B.head) rest in (
         record {
           field = rw B.head A.field;
           counts = rw B.head A.counts;

@@ -8,10 +8,10 @@ use lib.Dec.{ltb, lit≤}
 use lib.ListN.{length}
 use Rattle.package.specs.Answer.{Answer, refused, read, ◌then◌}
 use Rattle.package.specs.Head.{HeadForm, no_head, head, head_form, field_fits, counts_fit}
-use Rattle.package.specs.Names.{head_names, two_house_names, term_names, sum_names}
-use Rattle.package.specs.Package.{package_limits, names_line, NamesBlock, head_names_line, CountsBlock, counts_judged, counts_line, HeadBlock, first_term, term_names_line, head_lines_of, term_block, sum_block, sized, read_with, read_package}
-use Rattle.package.specs.Sums.{SumForm, no_sum, sum, sum_form, sum_kind_fits, sum_fits, sum_follows, SumVerdict, judged3, judge_sum, at_end, block3, sums_of}
-use Rattle.package.specs.Terms.{TermLine, TermForm, no_term, term, term_form, LineAbove, start, term_kind_fits, term_fits, follows, has_room, counted, TermVerdict, refused_by, accept, judged, judge_term, TermBlock, terms_read, block2}
+use Rattle.package.specs.Names.{head_names, term_names, sum_names}
+use Rattle.package.specs.Package.{package_limits, names_line, CountsBlock, counts_judged, counts_line, HeadBlock, first_term, term_names_line, head_lines_of, term_block, sum_block, sized, read_with, read_package}
+use Rattle.package.specs.Sums.{SumForm, no_sum, sum, sum_form, sum_fits, sum_follows, SumVerdict, judged3, judge_sum, at_end, block3, sums_of}
+use Rattle.package.specs.Terms.{TermLine, TermForm, no_term, term, term_form, LineAbove, start, term_fits, follows, has_room, counted, TermVerdict, refused_by, accept, judged, judge_term, TermBlock, terms_read, block2}
 use Rattle.package.specs.declared.Head.{Head}
 use Rattle.package.specs.declared.Limits.{Limits}
 use Rattle.lists.specs.Same.{same}
@@ -38,33 +38,20 @@ module _ (Q : ℕ → Type 0) where
       go false = two
       go true = tt
 
-  pub head_names_numbered : Q 2 → (ls : Pieces) → Numbered (head_names_line ls)
-  unfolding Numbered head_names_line
-  head_names_numbered two (final x) = two
-  head_names_numbered two (piece l ls) = go (same l head_names) (same l two_house_names)
-    where
-      go : (t u : Bool) → Numbered {A = NamesBlock} (elim t [
-        | true ↦ read (record { houses = false; rest = ls })
-        | false ↦ elim u [ true ↦ read (record { houses = true; rest = ls }) | false ↦ refused 2 1 ]
-      ])
-      go true u = tt
-      go false true = tt
-      go false false = two
-
-  counts-numbered : Q 2 → Q 3 → Q 4 → (houses : Bool) (f : HeadForm) (ls : Pieces) → Numbered (counts_judged houses f ls)
+  counts-numbered : Q 2 → Q 3 → Q 4 → (f : HeadForm) (ls : Pieces) → Numbered (counts_judged f ls)
   unfolding Numbered counts_judged
-  counts-numbered two three four houses no_head ls = two
-  counts-numbered two three four houses (head h) ls = go (field_fits h.p) (counts_fit houses h)
+  counts-numbered two three four no_head ls = two
+  counts-numbered two three four (head h) ls = go (field_fits h.p) (counts_fit h)
     where
       go : (t u : Bool) → Numbered {A = CountsBlock} (elim t [ false ↦ refused 3 2 | true ↦ elim u [ false ↦ refused 4 2 | true ↦ read (record { head = h; rest = ls }) ] ])
       go false u = three
       go true false = four
       go true true = tt
 
-  line-numbered : Q 2 → Q 3 → Q 4 → (houses : Bool) (ls : Pieces) → Numbered (counts_line houses ls)
+  line-numbered : Q 2 → Q 3 → Q 4 → (ls : Pieces) → Numbered (counts_line ls)
   unfolding Numbered counts_line
-  line-numbered two three four houses (final x) = two
-  line-numbered two three four houses (piece l ls) = counts-numbered two three four houses (head_form houses (fields l)) ls
+  line-numbered two three four (final x) = two
+  line-numbered two three four (piece l ls) = counts-numbered two three four (head_form (fields l)) ls
 
   pub term_names_numbered : Q 2 → (c : CountsBlock) → Numbered (term_names_line c)
   unfolding Numbered term_names_line
@@ -75,9 +62,8 @@ module _ (Q : ℕ → Type 0) where
   head-numbered : Q 2 → Q 3 → Q 4 → (ls : Pieces) → Numbered (head_lines_of ls)
   unfolding head_lines_of
   head-numbered two three four ls =
-      then-numbered (head_names_line ls then (λ (b : NamesBlock). counts_line b.houses b.rest)) term_names_line
-      (then-numbered (head_names_line ls) (λ (b : NamesBlock). counts_line b.houses b.rest) (head_names_numbered two ls)
-      (λ b _. line-numbered two three four b.houses b.rest))
+      then-numbered (names_line head_names 1 ls then counts_line) term_names_line
+      (then-numbered (names_line head_names 1 ls) counts_line (names_numbered two head_names 1 ls) (λ ms _. line-numbered two three four ms))
       (λ c _. term_names_numbered two c)
 
   -- Block 2.
@@ -88,17 +74,13 @@ module _ (Q : ℕ → Type 0) where
   term-numbered : Q 2 → Q 5 → Q 6 → Q 7 → (h : Head) (m : Limits) (a : LineAbove) (total : ℕ) (f : TermForm) → TermNumbered (judged h m a total f)
   unfolding TermNumbered judged
   term-numbered two five six seven h m a total no_term = two
-  term-numbered two five six seven h m a total (term k i c w) = go (term_kind_fits h k) (term_fits h m k i c w) (follows a k i w) (has_room m a total k i)
+  term-numbered two five six seven h m a total (term k i c w) = go (term_fits h m k i c w) (follows a k i w) (has_room m a total k i)
     where
-      go : (v x y z : Bool) → TermNumbered (elim v [
-        | false ↦ refused_by 2
-        | true ↦ elim x [ false ↦ refused_by 5 | true ↦ elim y [ false ↦ refused_by 6 | true ↦ elim z [ false ↦ refused_by 7 | true ↦ accept k i c w ] ] ]
-      ])
-      go false x y z = two
-      go true false y z = five
-      go true true false z = six
-      go true true true false = seven
-      go true true true true = tt
+      go : (x y z : Bool) → TermNumbered (elim x [ false ↦ refused_by 5 | true ↦ elim y [ false ↦ refused_by 6 | true ↦ elim z [ false ↦ refused_by 7 | true ↦ accept k i c w ] ] ])
+      go false y z = five
+      go true false z = six
+      go true true false = seven
+      go true true true = tt
 
   terms-numbered : Q 2 → Q 5 → Q 6 → Q 7 → (h : Head) (m : Limits) (ls : Pieces) (a : LineAbove) (ts : List TermLine) (n : ℕ) → Numbered (block2 h m a ts n ls)
   unfolding Numbered block2 TermNumbered judge_term
@@ -132,16 +114,12 @@ module _ (Q : ℕ → Type 0) where
   sum-numbered : Q 2 → Q 5 → Q 6 → (h : Head) (m : Limits) (k i : ℕ) (f : SumForm) → SumNumbered (judged3 h m k i f)
   unfolding SumNumbered judged3
   sum-numbered two five six h m k i no_sum = two
-  sum-numbered two five six h m k i (sum k' i' c l o r) = go (sum_kind_fits h k') (sum_fits h m k' i' c l o r) (sum_follows k i k' i')
+  sum-numbered two five six h m k i (sum k' i' c l o r) = go (sum_fits h m k' i' c l o r) (sum_follows k i k' i')
     where
-      go : (v x y : Bool) → SumNumbered (elim v [
-        | false ↦ SumVerdict.refused_by 2
-        | true ↦ elim x [ false ↦ SumVerdict.refused_by 5 | true ↦ elim y [ false ↦ SumVerdict.refused_by 6 | true ↦ SumVerdict.accept k' i' ] ]
-      ])
-      go false x y = two
-      go true false y = five
-      go true true false = six
-      go true true true = tt
+      go : (x y : Bool) → SumNumbered (elim x [ false ↦ SumVerdict.refused_by 5 | true ↦ elim y [ false ↦ SumVerdict.refused_by 6 | true ↦ SumVerdict.accept k' i' ] ])
+      go false y = five
+      go true false = six
+      go true true = tt
 
   sums-numbered : Q 2 → Q 5 → Q 6 → (h : Head) (m : Limits) (ls : Pieces) (k i n : ℕ) → Numbered (block3 h m k i n ls)
   unfolding Numbered block3 at_end judge_sum SumNumbered

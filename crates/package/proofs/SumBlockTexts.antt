@@ -5,10 +5,10 @@ use mathlib.Core.List.{List, [], ◌∷◌}
 use Prim.Native.Nat.{ℕ, suc}
 use native.Mathlib.Omega.{arith}
 use Rattle.package.proofs.Answers.{refused_not_read}
-use Rattle.package.proofs.SumLines.{judge3_2, judge3_kind, judge3_5, judge3_6, judge3_0}
+use Rattle.package.proofs.SumLines.{judge3_2, judge3_5, judge3_6, judge3_0}
 use Rattle.package.proofs.SumTexts.{sum-text}
 use Rattle.package.specs.Readable.{SumsInOrder, no_sums, sum_then}
-use Rattle.package.specs.Sums.{SumLine, SumForm, no_sum, sum, sum_form, sum_kind_fits, sum_fits, sum_follows, SumVerdict, refused_by, accept, judge_sum, sums_read, at_end, block3, with_sum, sums_of}
+use Rattle.package.specs.Sums.{SumLine, SumForm, no_sum, sum, sum_form, sum_fits, sum_follows, SumVerdict, refused_by, accept, judge_sum, sums_read, at_end, block3, with_sum, sums_of}
 use Rattle.package.specs.Writing.{sum_lines_of}
 use Rattle.package.specs.declared.Head.{Head}
 use Rattle.package.specs.declared.Limits.{Limits}
@@ -23,7 +23,6 @@ record SumAccepted (h : Head) (lim : Limits) (k' i' : ℕ) (line : List ℕ) (k 
   of : ℕ
   right : List ℕ
   form : sum_form (fields line) ≡ sum k i coef left of right
-  housed : sum_kind_fits h k ≡ true
   fits : sum_fits h lim k i coef left of right ≡ true
   order : sum_follows k' i' k i ≡ true
 
@@ -32,19 +31,18 @@ module _ (h : Head) (lim : Limits) (k' i' : ℕ) (line : List ℕ) (k i : ℕ) (
   refused_not v q = let z : refused_by v ≡ accept k i = q ∙ e in let y : ◌≡◌ {A = ℕ} 0 1 = cc in omega arith
 
   module _ (k₁ i₁ c : ℕ) (l : List ℕ) (o : ℕ) (r : List ℕ) (q : sum_form (fields line) ≡ sum k₁ i₁ c l o r) where
-    by_tests : (s t u : Bool) → sum_kind_fits h k₁ ≡ s → sum_fits h lim k₁ i₁ c l o r ≡ t → sum_follows k' i' k₁ i₁ ≡ u → SumAccepted h lim k' i' line k i
-    by_tests false t u d f g = absurd (refused_not 2 (judge3_kind h lim k' i' line k₁ i₁ c l o r q d))
-    by_tests true false u d f g = absurd (refused_not 5 (judge3_5 h lim k' i' line k₁ i₁ c l o r q d f))
-    by_tests true true false d f g = absurd (refused_not 6 (judge3_6 h lim k' i' line k₁ i₁ c l o r q d f g))
-    by_tests true true true d f g =
-        let z : accept k₁ i₁ ≡ accept k i = judge3_0 h lim k' i' line k₁ i₁ c l o r q d f g ∙ e in
+    by_tests : (t u : Bool) → sum_fits h lim k₁ i₁ c l o r ≡ t → sum_follows k' i' k₁ i₁ ≡ u → SumAccepted h lim k' i' line k i
+    by_tests false u f g = absurd (refused_not 5 (judge3_5 h lim k' i' line k₁ i₁ c l o r q f))
+    by_tests true false f g = absurd (refused_not 6 (judge3_6 h lim k' i' line k₁ i₁ c l o r q f g))
+    by_tests true true f g =
+        let z : accept k₁ i₁ ≡ accept k i = judge3_0 h lim k' i' line k₁ i₁ c l o r q f g ∙ e in
         let x₁ : k₁ ≡ k = cc in
         let x₂ : i₁ ≡ i = cc in
-        rw (← x₁, ← x₂) (record { coef = c; left = l; of = o; right = r; form = q; housed = d; fits = f; order = g })
+        rw (← x₁, ← x₂) (record { coef = c; left = l; of = o; right = r; form = q; fits = f; order = g })
 
   by_form : (f : SumForm) → sum_form (fields line) ≡ f → SumAccepted h lim k' i' line k i
   by_form no_sum q = absurd (refused_not 2 (judge3_2 h lim k' i' line q))
-  by_form (sum k₁ i₁ c l o r) q = by_tests k₁ i₁ c l o r q (sum_kind_fits h k₁) (sum_fits h lim k₁ i₁ c l o r) (sum_follows k' i' k₁ i₁) refl refl refl
+  by_form (sum k₁ i₁ c l o r) q = by_tests k₁ i₁ c l o r q (sum_fits h lim k₁ i₁ c l o r) (sum_follows k' i' k₁ i₁) refl refl
 
   accepted-sum : SumAccepted h lim k' i' line k i
   accepted-sum = by_form (sum_form (fields line)) refl
@@ -74,5 +72,5 @@ module _ (h : Head) (lim : Limits) where
             cut = ap₂ piece (sym (joined-pieces 32 l) ∙ ap write_fields t.cut) z.cut ∙ ap sum_lines_of (sym s);
             order =
                 subst (SumsInOrder h lim k' i' n) (sym s)
-                (sum_then (record { numbered = refl; ranked = t.ranked; housed = a.housed; digits = t.item; fits = a.fits; order = a.order }) z.order);
+                (sum_then (record { numbered = refl; ranked = t.ranked; digits = t.item; fits = a.fits; order = a.order }) z.order);
           }

@@ -8,7 +8,7 @@ use Rattle.package.specs.Answer.{Answer, refused}
 use Rattle.package.specs.Bounds.{coef_fits, word_fits_of}
 use Rattle.package.specs.Held.{GotSum, none_sum, some_sum, seen_sum, SumInside, seen_sum_judged, JudgedInside}
 use Rattle.package.specs.Names.{sum_kinds}
-use Rattle.package.specs.Sums.{no_sum, sum, sum_form, sum_kind_fits, sum_item_fits, ofs, sum_fits, sum_follows, refused_by, accept, judged3, judge_sum, block3}
+use Rattle.package.specs.Sums.{no_sum, sum, sum_form, sum_item_fits, ofs, sum_fits, sum_follows, refused_by, accept, judged3, judge_sum, block3}
 use Rattle.package.specs.declared.Head.{Head}
 use Rattle.package.specs.declared.Limits.{Limits}
 use Rattle.package.specs.declared.SumJudged.{SumJudged}
@@ -104,23 +104,18 @@ module _ (h : Head) (lim : Limits) (k' i' : ℕ) (line : List ℕ) where
   judge3_2 a = rw (judge_sum, a)
 
   module _ (k i c : ℕ) (l : List ℕ) (o : ℕ) (r : List ℕ) (a : sum_form (fields line) ≡ sum k i c l o r) where
-    pub judge3_kind : sum_kind_fits h k ≡ false → refused_by 2 ≡ judge_sum h lim k' i' line
+    pub judge3_5 : sum_fits h lim k i c l o r ≡ false → refused_by 5 ≡ judge_sum h lim k' i' line
     unfolding judge_sum judged3
-    judge3_kind b = rw (judge_sum, a, judged3, b)
+    judge3_5 b = rw (judge_sum, a, judged3, b)
 
-    module _ (b : sum_kind_fits h k ≡ true) where
-      pub judge3_5 : sum_fits h lim k i c l o r ≡ false → refused_by 5 ≡ judge_sum h lim k' i' line
+    module _ (b : sum_fits h lim k i c l o r ≡ true) where
+      pub judge3_6 : sum_follows k' i' k i ≡ false → refused_by 6 ≡ judge_sum h lim k' i' line
       unfolding judge_sum judged3
-      judge3_5 d = rw (judge_sum, a, judged3, b, d)
+      judge3_6 d = rw (judge_sum, a, judged3, b, d)
 
-      module _ (d : sum_fits h lim k i c l o r ≡ true) where
-        pub judge3_6 : sum_follows k' i' k i ≡ false → refused_by 6 ≡ judge_sum h lim k' i' line
-        unfolding judge_sum judged3
-        judge3_6 e = rw (judge_sum, a, judged3, b, d, e)
-
-        pub judge3_0 : sum_follows k' i' k i ≡ true → accept k i ≡ judge_sum h lim k' i' line
-        unfolding judge_sum judged3
-        judge3_0 e = rw (judge_sum, a, judged3, b, d, e)
+      pub judge3_0 : sum_follows k' i' k i ≡ true → accept k i ≡ judge_sum h lim k' i' line
+      unfolding judge_sum judged3
+      judge3_0 d = rw (judge_sum, a, judged3, b, d)
 
 -- What an answer says of the line that was judged.
 module _ (h : Head) (lim : Limits) (s : List ℕ) (n : ℕ) (r : SumJudged) (x : Answer (Unit {0})) where

@@ -100,19 +100,15 @@ known_kind zero b = absurd (omega arith)
 known_kind (suc zero) b = refl
 known_kind (suc (suc zero)) b = refl
 known_kind (suc (suc (suc zero))) b = refl
-known_kind (suc (suc (suc (suc zero)))) b = refl
-known_kind (suc (suc (suc (suc (suc zero))))) b = refl
-known_kind (suc (suc (suc (suc (suc (suc k)))))) b = absurd (omega arith)
+known_kind (suc (suc (suc (suc k)))) b = absurd (omega arith)
 
 pub kind-clear : (b k : ℕ) → b < 48 → (sum_b ≤ k) × (k ≤ sum_o) → Without b (write_kind sum_kinds k)
 unfolding write_kind
 kind-clear b zero h r = absurd (omega arith)
 kind-clear b (suc zero) h r = apart {x = 66} (λ (e : 66 ≡ b). omega arith) empty
-kind-clear b (suc (suc zero)) h r = apart {x = 67} (λ (e : 67 ≡ b). omega arith) empty
-kind-clear b (suc (suc (suc zero))) h r = apart {x = 71} (λ (e : 71 ≡ b). omega arith) empty
-kind-clear b (suc (suc (suc (suc zero)))) h r = apart {x = 72} (λ (e : 72 ≡ b). omega arith) empty
-kind-clear b (suc (suc (suc (suc (suc zero))))) h r = apart {x = 79} (λ (e : 79 ≡ b). omega arith) empty
-kind-clear b (suc (suc (suc (suc (suc (suc k)))))) h r = absurd (omega arith)
+kind-clear b (suc (suc zero)) h r = apart {x = 71} (λ (e : 71 ≡ b). omega arith) empty
+kind-clear b (suc (suc (suc zero))) h r = apart {x = 79} (λ (e : 79 ≡ b). omega arith) empty
+kind-clear b (suc (suc (suc (suc k)))) h r = absurd (omega arith)
 
 -- A written sum line.
 module _ (k i c : ℕ) (l : List ℕ) (o : ℕ) (r : List ℕ) (x : within sum_b sum_o k ≡ true) (y : all_within 97 122 l ≡ true) (z : all_within 97 122 r ≡ true) where

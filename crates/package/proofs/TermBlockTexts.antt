@@ -6,12 +6,12 @@ use Prim.Native.Nat.{ℕ, suc, ◌+◌}
 use native.Mathlib.Omega.{arith}
 use lib.ListN.{length, length-append}
 use Rattle.package.proofs.Answers.{refused_not_read, read_injective}
-use Rattle.package.proofs.TermJudging.{judge_kind, judge_5, judge_6, by_room, judge_2}
+use Rattle.package.proofs.TermJudging.{judge_5, judge_6, by_room, judge_2}
 use Rattle.package.proofs.TermTexts.{term-text}
 use Rattle.package.specs.Answer.{read}
 use Rattle.package.specs.Names.{sum_names}
 use Rattle.package.specs.Readable.{under, TermInOrder, TermsInOrder, no_terms, term_then}
-use Rattle.package.specs.Terms.{TermLine, TermForm, no_term, term, term_form, term_kind_fits, term_fits, LineAbove, follows, has_room, TermVerdict, refused_by, accept, judged, judge_term, TermBlock, block2}
+use Rattle.package.specs.Terms.{TermLine, TermForm, no_term, term, term_form, term_fits, LineAbove, follows, has_room, TermVerdict, refused_by, accept, judged, judge_term, TermBlock, block2}
 use Rattle.package.specs.Writing.{term_fields, term_lines_of}
 use Rattle.package.specs.declared.Head.{Head}
 use Rattle.package.specs.declared.Limits.{Limits}
@@ -34,25 +34,23 @@ module _ (h : Head) (lim : Limits) (a : LineAbove) (n : ℕ) (l : List ℕ) (k i
     unfolding judge_term
     the_verdict = sym (ap (judged h lim a n) q)
 
-    by_tests : (s t u v : Bool) → term_kind_fits h k' ≡ s → term_fits h lim k' i' c' w' ≡ t → follows a k' i' w' ≡ u → has_room lim a n k' i' ≡ v → Accepted
-    by_tests false t u v d f o r = absurd (refused_not 2 (judge_kind h lim a n k' i' c' w' d ∙ the_verdict))
-    by_tests true false u v d f o r = absurd (refused_not 5 (judge_5 h lim a n k' i' c' w' d f ∙ the_verdict))
-    by_tests true true false v d f o r = absurd (refused_not 6 (judge_6 h lim a n k' i' c' w' d f o ∙ the_verdict))
-    by_tests true true true false d f o r = absurd (refused_not 7 (by_room h lim a n k' i' c' w' d f o false r ∙ the_verdict))
-    by_tests true true true true d f o r =
-        let z : accept k' i' c' w' ≡ accept k i c w = by_room h lim a n k' i' c' w' d f o true r ∙ the_verdict ∙ e in
+    by_tests : (t u v : Bool) → term_fits h lim k' i' c' w' ≡ t → follows a k' i' w' ≡ u → has_room lim a n k' i' ≡ v → Accepted
+    by_tests false u v f o r = absurd (refused_not 5 (judge_5 h lim a n k' i' c' w' f ∙ the_verdict))
+    by_tests true false v f o r = absurd (refused_not 6 (judge_6 h lim a n k' i' c' w' f o ∙ the_verdict))
+    by_tests true true false f o r = absurd (refused_not 7 (by_room h lim a n k' i' c' w' f o false r ∙ the_verdict))
+    by_tests true true true f o r =
+        let z : accept k' i' c' w' ≡ accept k i c w = by_room h lim a n k' i' c' w' f o true r ∙ the_verdict ∙ e in
         let x₁ : k' ≡ k = cc in
         let x₂ : i' ≡ i = cc in
         let x₃ : c' ≡ c = cc in
         let x₄ : w' ≡ w = cc in
         let t = term-text (fields l) k' i' c' w' q in
         rw (← x₁, ← x₂, ← x₃, ← x₄)
-        (sym (joined-pieces 32 l) ∙ ap write_fields t.cut, record { ranked = t.ranked; housed = d; fits = f; order = o; room = r })
+        (sym (joined-pieces 32 l) ∙ ap write_fields t.cut, record { ranked = t.ranked; fits = f; order = o; room = r })
 
   by_form : (f : TermForm) → term_form (fields l) ≡ f → Accepted
   by_form no_term q = absurd (refused_not 2 (judge_2 h lim a n l q))
-  by_form (term k' i' c' w') q =
-      by_tests k' i' c' w' q (term_kind_fits h k') (term_fits h lim k' i' c' w') (follows a k' i' w') (has_room lim a n k' i') refl refl refl refl
+  by_form (term k' i' c' w') q = by_tests k' i' c' w' q (term_fits h lim k' i' c' w') (follows a k' i' w') (has_room lim a n k' i') refl refl refl
 
   pub accepted : Accepted
   accepted = by_form (term_form (fields l)) refl
@@ -109,4 +107,4 @@ pub in_order-accepted : (h : Head) (lim : Limits) (a : LineAbove) (n : ℕ) (l :
     → judge_term h lim a n l ≡ accept t.kind t.item t.coef t.word
 unfolding judge_term
 in_order-accepted h lim a n l t f o =
-    ap (judged h lim a n) f ∙ sym (by_room h lim a n t.kind t.item t.coef t.word o.housed o.fits o.order true o.room)
+    ap (judged h lim a n) f ∙ sym (by_room h lim a n t.kind t.item t.coef t.word o.fits o.order true o.room)

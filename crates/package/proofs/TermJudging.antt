@@ -9,7 +9,7 @@ use lib.ListN.{take, drop}
 use lib.Seq.{drop-drop}
 use borrow.Author.Tests.{lt-ltb, le-ltb, ltb-true, ltb-false}
 use Rattle.package.specs.Held.{seen_judged, reach_judged, above_of}
-use Rattle.package.specs.Terms.{TermForm, no_term, term, term_form, term_kind_fits, term_fits, LineAbove, follows, counted, has_room, TermVerdict, refused_by, accept, judged, judge_term}
+use Rattle.package.specs.Terms.{TermForm, no_term, term, term_form, term_fits, LineAbove, follows, counted, has_room, TermVerdict, refused_by, accept, judged, judge_term}
 use Rattle.package.specs.declared.Head.{Head}
 use Rattle.package.specs.declared.Last.{Last}
 use Rattle.package.specs.declared.Limits.{Limits}
@@ -19,36 +19,31 @@ use Rattle.text.specs.Pieces.{pieces, fields, part}
 
 -- A line that has its shape.
 module _ (h : Head) (lim : Limits) (a : LineAbove) (n k i c : ℕ) (w : List ℕ) where
-  pub judge_kind : term_kind_fits h k ≡ false → refused_by 2 ≡ judged h lim a n (term k i c w)
+  pub judge_5 : term_fits h lim k i c w ≡ false → refused_by 5 ≡ judged h lim a n (term k i c w)
   unfolding judged
-  judge_kind d = rw (judged, d)
+  judge_5 p = rw (judged, p)
 
-  module _ (d : term_kind_fits h k ≡ true) where
-    pub judge_5 : term_fits h lim k i c w ≡ false → refused_by 5 ≡ judged h lim a n (term k i c w)
+  module _ (p : term_fits h lim k i c w ≡ true) where
+    pub judge_6 : follows a k i w ≡ false → refused_by 6 ≡ judged h lim a n (term k i c w)
     unfolding judged
-    judge_5 p = rw (judged, d, p)
+    judge_6 q = rw (judged, p, q)
 
-    module _ (p : term_fits h lim k i c w ≡ true) where
-      pub judge_6 : follows a k i w ≡ false → refused_by 6 ≡ judged h lim a n (term k i c w)
+    module _ (q : follows a k i w ≡ true) where
+      pub by_room : (t : Bool) → has_room lim a n k i ≡ t → ◌≡◌ {A = TermVerdict} (elim t [ false ↦ refused_by 7 | true ↦ accept k i c w ]) (judged h lim a n (term k i c w))
       unfolding judged
-      judge_6 q = rw (judged, d, p, q)
+      by_room t r = rw (judged, p, q, r)
 
-      module _ (q : follows a k i w ≡ true) where
-        pub by_room : (t : Bool) → has_room lim a n k i ≡ t → ◌≡◌ {A = TermVerdict} (elim t [ false ↦ refused_by 7 | true ↦ accept k i c w ]) (judged h lim a n (term k i c w))
-        unfolding judged
-        by_room t r = rw (judged, d, p, q, r)
+      pub judge_7_item : lim.terms < counted a k i → refused_by 7 ≡ judged h lim a n (term k i c w)
+      unfolding has_room
+      judge_7_item r = by_room false (rw (has_room, lt-ltb lim.terms (counted a k i) r))
 
-        pub judge_7_item : lim.terms < counted a k i → refused_by 7 ≡ judged h lim a n (term k i c w)
-        unfolding has_room
-        judge_7_item r = by_room false (rw (has_room, lt-ltb lim.terms (counted a k i) r))
+      pub judge_7_total : counted a k i ≤ lim.terms → 1024 ≤ n → refused_by 7 ≡ judged h lim a n (term k i c w)
+      unfolding has_room
+      judge_7_total r z = by_room false (rw (has_room, le-ltb lim.terms (counted a k i) r, le-ltb n 1024 z))
 
-        pub judge_7_total : counted a k i ≤ lim.terms → 1024 ≤ n → refused_by 7 ≡ judged h lim a n (term k i c w)
-        unfolding has_room
-        judge_7_total r z = by_room false (rw (has_room, le-ltb lim.terms (counted a k i) r, le-ltb n 1024 z))
-
-        pub judge_0 : counted a k i ≤ lim.terms → n < 1024 → accept k i c w ≡ judged h lim a n (term k i c w)
-        unfolding has_room
-        judge_0 r z = by_room true (rw (has_room, le-ltb lim.terms (counted a k i) r, lt-ltb n 1024 z))
+      pub judge_0 : counted a k i ≤ lim.terms → n < 1024 → accept k i c w ≡ judged h lim a n (term k i c w)
+      unfolding has_room
+      judge_0 r z = by_room true (rw (has_room, le-ltb lim.terms (counted a k i) r, lt-ltb n 1024 z))
 
 -- The number of terms of an item does not depend on the word.
 pub counted-word : (s : List ℕ) (last : Last) (k i : ℕ) → counted (above_of [] last) k i ≡ counted (above_of s last) k i
@@ -106,24 +101,20 @@ pub accept-room : (h : Head) (lim : Limits) (a : LineAbove) (n : ℕ) (f : TermF
     (n < 1024) × (counted a k i ≤ lim.terms)
 unfolding judged
 accept-room h lim a n no_term k i c w e = absurd (let y : ◌≡◌ {A = ℕ} 0 1 = cc in omega arith)
-accept-room h lim a n (term k' i' c' w') k i c w e = go (term_kind_fits h k') (term_fits h lim k' i' c' w') (follows a k' i' w') e
+accept-room h lim a n (term k' i' c' w') k i c w e = go (term_fits h lim k' i' c' w') (follows a k' i' w') e
   where
-    go : (s t u : Bool) → ◌≡◌ {A = TermVerdict} (elim s [
-      | false ↦ refused_by 2
-      | true ↦ elim t [
-        | false ↦ refused_by 5
-        | true ↦ elim u [
-          | false ↦ refused_by 6
-          | true ↦ elim
-              (has_room lim a n k' i') [ false ↦ refused_by 7 | true ↦ accept k' i' c' w' ]
-        ]
+    go : (t u : Bool) → ◌≡◌ {A = TermVerdict} (elim t [
+      | false ↦ refused_by 5
+      | true ↦ elim u [
+        | false ↦ refused_by 6
+        | true ↦ elim
+            (has_room lim a n k' i') [ false ↦ refused_by 7 | true ↦ accept k' i' c' w' ]
       ]
     ]) (accept k i c w)
         → (n < 1024) × (counted a k i ≤ lim.terms)
-    go false t u e = absurd (let y : ◌≡◌ {A = ℕ} 0 1 = cc in omega arith)
-    go true false u e = absurd (let y : ◌≡◌ {A = ℕ} 0 1 = cc in omega arith)
-    go true true false e = absurd (let y : ◌≡◌ {A = ℕ} 0 1 = cc in omega arith)
-    go true true true e = last_test lim a n k i c k' i' c' w w' (has_room lim a n k' i') refl e
+    go false u e = absurd (let y : ◌≡◌ {A = ℕ} 0 1 = cc in omega arith)
+    go true false e = absurd (let y : ◌≡◌ {A = ℕ} 0 1 = cc in omega arith)
+    go true true e = last_test lim a n k i c k' i' c' w w' (has_room lim a n k' i') refl e
 
 pub judged-room : (h : Head) (lim : Limits) (a : LineAbove) (n : ℕ) (l : List ℕ) (k i c : ℕ) (w : List ℕ) → judge_term h lim a n l ≡ accept k i c w →
     (n < 1024) × (counted a k i ≤ lim.terms)

@@ -80,16 +80,14 @@ unfolding rank rank_from write_kind
 term-kind zero b = absurd (omega arith)
 term-kind (suc zero) b = refl
 term-kind (suc (suc zero)) b = refl
-term-kind (suc (suc (suc zero))) b = refl
-term-kind (suc (suc (suc (suc k)))) b = absurd (omega arith)
+term-kind (suc (suc (suc k))) b = absurd (omega arith)
 
 term-kind-clear : (b k : ℕ) → b < 48 → (term_g ≤ k) × (k ≤ term_b) → Without b (write_kind term_kinds k)
 unfolding write_kind
 term-kind-clear b zero h r = absurd (omega arith)
 term-kind-clear b (suc zero) h r = apart {x = 71} (λ (e : 71 ≡ b). omega arith) empty
-term-kind-clear b (suc (suc zero)) h r = apart {x = 72} (λ (e : 72 ≡ b). omega arith) empty
-term-kind-clear b (suc (suc (suc zero))) h r = apart {x = 66} (λ (e : 66 ≡ b). omega arith) empty
-term-kind-clear b (suc (suc (suc (suc k)))) h r = absurd (omega arith)
+term-kind-clear b (suc (suc zero)) h r = apart {x = 66} (λ (e : 66 ≡ b). omega arith) empty
+term-kind-clear b (suc (suc (suc k))) h r = absurd (omega arith)
 
 -- A written term line.
 module _ (k i c : ℕ) (w : List ℕ) (r : within term_g term_b k ≡ true) (l : all_within 97 122 w ≡ true) where

@@ -46,7 +46,7 @@ module _ (h : Head) (lim : Limits) (b : HeadBounds h) where
       let q = sum_numbers h lim x.kind x.item x.coef x.left x.of x.right b o.fits in
       let f = text-sum x.kind x.item x.coef x.left x.of x.right o.ranked q.lefts q.rights o.digits q.coef q.of in
       let j = sym (judge3_0 h lim k i (write_fields (sum_fields x.kind x.item x.coef x.left x.of x.right)) x.kind x.item
-      x.coef x.left x.of x.right f o.housed o.fits o.order) in
+      x.coef x.left x.of x.right f o.fits o.order) in
       let z = text-block3 x.kind x.item (suc n) xs os in
       (rw (block3, j) z.0, rw (sums_of, f, z.1, ← o.numbered))
 

@@ -206,7 +206,7 @@ sum_line_of n k i c l o r = record { line = n; kind = k; item = i; coef = c; lef
 pub read_e : Package
 unfolding term_line sum_line_of
 read_e = record {
-  head = record { p = 7; letters = 2; gens = 1; others = 0; basis = 2 };
+  head = record { p = 7; letters = 2; gens = 1; basis = 2 };
   terms = term_line term_g 1 1 "aa" ∷ term_line term_g 1 6 "b" ∷ term_line term_b 1 1 "aa" ∷ term_line term_b 1 6 "b" ∷ term_line term_b 2 1 "ab" ∷ term_line term_b 2 6 "ba" ∷ [];
   sums =
       sum_line_of 11 sum_b 1 1 "" 1 ""

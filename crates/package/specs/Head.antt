@@ -1,5 +1,4 @@
--- Block 1 has one value line: p, which says which field, the number of letters, of relations (generators) and of basis polynomials. Where line 1 names a
--- second house (document 02, P11), the number of its relations stands before the last.
+-- Block 1 has one value line: p, which says which field, the number of letters, of relations (generators) and of basis polynomials.
 use Rattle.std.specs.Prelude.{◌≡◌, Bool, true, false, ◌⊎◌, ℕ, ◌≤◌, eqb, ltb}
 use Rattle.field.specs.Prime.{Prime, is_prime}
 use Rattle.package.specs.declared.Head.{Head}
@@ -14,30 +13,16 @@ pub data HeadForm : Type 0 where
   no_head : HeadForm
   head : Head → HeadForm
 
--- The last counts of the line: of the second house's relations, and of basis polynomials.
-pub data LastForm : Type 0 where
-  no_last : LastForm
-  last_counts : ℕ → ℕ → LastForm
-
--- One number, basis, where there is no second house: it has no relations. Two, others basis, where there is one.
-unfoldable pub last_form : Bool → Pieces → LastForm
+-- Four numbers: p letters gens basis.
+unfoldable pub head_form : Pieces → HeadForm
 unfolding num_then num_last number
-last_form false ps = elim (num_last ps) [ Misshapen ↦ no_last | Value b ↦ last_counts 0 b ]
-last_form true ps = elim (num_then number ps) [
-  | none ↦ no_last
-  | some o ps₁ ↦ elim (num_last ps₁) [ Misshapen ↦ no_last | Value b ↦ last_counts o b ]
-]
-
--- Four numbers, p letters gens basis, or five, p letters gens others basis, where line 1 names a second house.
-unfoldable pub head_form : Bool → Pieces → HeadForm
-unfolding num_then last_form number
-head_form houses ps = elim (num_then number ps) [
+head_form ps = elim (num_then number ps) [
   | none ↦ no_head
   | some p ps₁ ↦ elim (num_then number ps₁) [
     | none ↦ no_head
     | some l ps₂ ↦ elim (num_then number ps₂) [
       | none ↦ no_head
-      | some g ps₃ ↦ elim (last_form houses ps₃) [ no_last ↦ no_head | last_counts o b ↦ head (record { p = p; letters = l; gens = g; others = o; basis = b }) ]
+      | some g ps₃ ↦ elim (num_last ps₃) [ Misshapen ↦ no_head | Value b ↦ head (record { p = p; letters = l; gens = g; basis = b }) ]
     ]
   ]
 ]
@@ -51,23 +36,10 @@ unfoldable pub field_fits : ℕ → Bool
 unfolding is_prime
 field_fits p = elim (eqb p 256) [ true ↦ true | false ↦ elim (ltb 65521 p) [ true ↦ false | false ↦ is_prime p ] ]
 
--- There is a second house: it has relations, 1 or more.
-unfoldable pub has_others : Head → Bool
-has_others h = ltb 0 h.others
-
--- Relations of the second house: 1 to 32 where line 1 names it, else none.
-unfoldable pub others_fit : Bool → ℕ → Bool
+-- Letters 1 to 26; relations 0 to 32; basis 0 to 64.
+unfoldable pub counts_fit : Head → Bool
 unfolding within
-others_fit false n = eqb n 0
-others_fit true n = within 1 32 n
-
--- Letters 1 to 26; relations 0 to 32; those of a second house; basis 0 to 64.
-unfoldable pub counts_fit : Bool → Head → Bool
-unfolding within others_fit
-counts_fit houses h = elim (within 1 26 h.letters) [
+counts_fit h = elim (within 1 26 h.letters) [
   | false ↦ false
-  | true ↦ elim (ltb 32 h.gens) [
-    | true ↦ false
-    | false ↦ elim (others_fit houses h.others) [ false ↦ false | true ↦ elim (ltb 64 h.basis) [ true ↦ false | false ↦ true ] ]
-  ]
+  | true ↦ elim (ltb 32 h.gens) [ true ↦ false | false ↦ elim (ltb 64 h.basis) [ true ↦ false | false ↦ true ] ]
 ]

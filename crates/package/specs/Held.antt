@@ -3,19 +3,17 @@ use Rattle.std.specs.Prelude.{◌≡◌, List, [], ◌∷◌, ◌++◌, ℕ, zer
 use Rattle.algebra.specs.Poly.{Term}
 use Rattle.package.specs.Answer.{Answer, refused, read}
 use Rattle.package.specs.Formula.{FormulaOutcome, wrong_at, formula, TermRow, no_row, row}
-use Rattle.package.specs.Head.{HeadForm, no_head, head, LastForm, no_last, last_counts}
-use Rattle.package.specs.Items.{before_basis, slot, first_of}
-use Rattle.package.specs.Package.{Outcome, NamesBlock, CountsBlock, HeadBlock, first_sum}
+use Rattle.package.specs.Head.{HeadForm, no_head, head}
+use Rattle.package.specs.Items.{slot, first_of}
+use Rattle.package.specs.Package.{Outcome, CountsBlock, HeadBlock, first_sum}
 use Rattle.package.specs.Sums.{SumForm, no_sum, sum, sum_form, sums_read, block3, sums_of}
 use Rattle.package.specs.Terms.{TermLine, TermForm, no_term, term, LineAbove, TermVerdict, refused_by, accept, TermBlock, terms_read}
 use Rattle.package.specs.declared.CountsRead.{CountsRead}
 use Rattle.package.specs.declared.FormulaRead.{FormulaRead}
 use Rattle.package.specs.declared.Head.{Head}
 use Rattle.package.specs.declared.HeadEnded.{HeadEnded}
-use Rattle.package.specs.declared.HeadNamesRead.{HeadNamesRead}
 use Rattle.package.specs.declared.HeadRead.{HeadRead}
 use Rattle.package.specs.declared.Last.{Last}
-use Rattle.package.specs.declared.LastRead.{LastRead}
 use Rattle.package.specs.declared.Limits.{Limits}
 use Rattle.package.specs.declared.NamesRead.{NamesRead}
 use Rattle.package.specs.declared.Reading.{Reading}
@@ -43,33 +41,10 @@ unfoldable pub NamesHeld : List ℕ → NamesRead → Type 0
 NamesHeld s NamesRead.Misshapen = Unit {0}
 NamesHeld s (NamesRead.Next e) = e ≤ length s
 
--- Line 1 of the text s.
-unfoldable pub seen_head_names : List ℕ → HeadNamesRead → Answer NamesBlock
-unfolding pieces
-seen_head_names s HeadNamesRead.Misshapen = refused 2 1
-seen_head_names s (HeadNamesRead.Next houses e) = read (record { houses = houses; rest = lines (drop e s) })
-
--- The line behind it starts in the text.
-unfoldable pub HeadNamesHeld : List ℕ → HeadNamesRead → Type 0
-HeadNamesHeld s HeadNamesRead.Misshapen = Unit {0}
-HeadNamesHeld s (HeadNamesRead.Next houses e) = e ≤ length s
-
--- The last counts of the value line of block 1.
-unfoldable pub seen_last_of : LastRead → LastForm
-seen_last_of LastRead.Misshapen = no_last
-seen_last_of (LastRead.Counts o b) = last_counts o b
-
 -- The value line of block 1.
 unfoldable pub seen_head : HeadRead → HeadForm
 seen_head HeadRead.Misshapen = no_head
-seen_head (HeadRead.Counts p l g o b) = head (record { p = p; letters = l; gens = g; others = o; basis = b })
-
--- Counts of line 2 that are in bounds.
-pub record InBounds (h : Head) : Type 0 where
-  pub letters : h.letters ≤ 26
-  pub gens : h.gens ≤ 32
-  pub others : h.others ≤ 32
-  pub basis : h.basis ≤ 64
+seen_head (HeadRead.Counts p l g b) = head (record { p = p; letters = l; gens = g; basis = b })
 
 -- Line 2 of the text s.
 unfoldable pub seen_counts : List ℕ → CountsRead → Answer CountsBlock
@@ -80,7 +55,7 @@ seen_counts s (CountsRead.Read c) = read (record { head = c.head; rest = lines (
 -- Counts that are not refused are in bounds, and the line behind them starts in the text.
 unfoldable pub CountsHeld : List ℕ → CountsRead → Type 0
 CountsHeld s (CountsRead.Refused r) = Unit {0}
-CountsHeld s (CountsRead.Read c) = InBounds c.head × (c.at ≤ length s)
+CountsHeld s (CountsRead.Read c) = ((c.head.letters ≤ 26) × (c.head.gens ≤ 32) × (c.head.basis ≤ 64)) × (c.at ≤ length s)
 
 -- The head lines of the text s.
 unfoldable pub seen_head_lines : List ℕ → HeadEnded → Answer HeadBlock
@@ -91,7 +66,8 @@ seen_head_lines s (HeadEnded.Read b) = read (record { head = b.head; line = b.li
 -- Head lines that are not refused leave counts in bounds, and a line that starts in the text. Each line takes a byte or more, but for four.
 unfoldable pub HeadHeld : List ℕ → HeadEnded → Type 0
 HeadHeld s (HeadEnded.Refused r) = Unit {0}
-HeadHeld s (HeadEnded.Read b) = InBounds b.head × (b.at ≤ length s) × (b.line ≤ b.at + 4)
+HeadHeld s (HeadEnded.Read b) =
+    ((b.head.letters ≤ 26) × (b.head.gens ≤ 32) × (b.head.basis ≤ 64)) × (b.at ≤ length s) × (b.line ≤ b.at + 4)
 
 -- A term line of the line l.
 unfoldable pub seen_term : List ℕ → TermRead → TermForm
@@ -201,14 +177,18 @@ unfolding held_terms pieces sums_of
 seen_all s ks is cs os ls (Reading.Refused r) = refused r.number r.place
 seen_all s ks is cs os ls (Reading.Whole h m at n) = read (record { head = h; terms = held_terms s ks is cs os ls m; sums = sums_of n (lines (drop at s)) })
 
--- Its number of terms, that its counts are in bounds, where its sum lines start, and the number of the first of them.
+-- Its number of terms, of relations and of basis polynomials, where its sum lines start, and the number of the first of them.
 unfoldable pub count_all : Reading → ℕ
 count_all (Reading.Refused r) = 0
 count_all (Reading.Whole h m at n) = m
 
-unfoldable pub BoundsHeld : Reading → Type 0
-BoundsHeld (Reading.Refused r) = Unit {0}
-BoundsHeld (Reading.Whole h m at n) = InBounds h
+unfoldable pub gens_all : Reading → ℕ
+gens_all (Reading.Refused r) = 0
+gens_all (Reading.Whole h m at n) = h.gens
+
+unfoldable pub basis_all : Reading → ℕ
+basis_all (Reading.Refused r) = 0
+basis_all (Reading.Whole h m at n) = h.basis
 
 unfoldable pub spot_all : Reading → ℕ
 spot_all (Reading.Refused r) = 0
@@ -225,7 +205,7 @@ LineHeld (Reading.Whole h m at n) = n ≡ first_sum m
 
 -- For each item number j up to the one after the last, fs says where the terms of item j start among the first n.
 abbrev pub StartsMarked : Head → List ℕ → List ℕ → ℕ → List ℕ → Type 0
-StartsMarked h ks is n fs = (j : ℕ) → j < before_basis h + h.basis + 2 → get_or fs j 0 ≡ first_of j (slots_held h ks is n)
+StartsMarked h ks is n fs = (j : ℕ) → j < h.gens + h.basis + 2 → get_or fs j 0 ≡ first_of j (slots_held h ks is n)
 
 unfoldable pub FirstsHeld : List ℕ → List ℕ → List ℕ → Reading → Type 0
 unfolding slots_held first_of

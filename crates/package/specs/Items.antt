@@ -1,16 +1,12 @@
--- Where the terms of an item start: items are numbered G 1 to gens, then H 1 to others, then B 1 to basis.
+-- Where the terms of an item start: items are numbered G 1 to gens, then B 1 to basis.
 use Rattle.std.specs.Prelude.{true, false, List, [], ◌∷◌, ℕ, suc, ◌+◌, ◌-◌, ltb, eqb, take, drop}
-use Rattle.package.specs.Names.{term_g, term_h}
+use Rattle.package.specs.Names.{term_g}
 use Rattle.package.specs.Terms.{TermLine}
 use Rattle.package.specs.declared.Head.{Head}
 
--- How many items stand before the basis.
-abbrev pub before_basis : Head → ℕ
-before_basis h = h.gens + h.others
-
 -- The number of item i of a kind among all items, counted from 1.
 unfoldable pub slot : Head → ℕ → ℕ → ℕ
-slot h k i = elim (eqb k term_g) [ true ↦ i | false ↦ elim (eqb k term_h) [ true ↦ h.gens + i | false ↦ before_basis h + i ] ]
+slot h k i = elim (eqb k term_g) [ true ↦ i | false ↦ h.gens + i ]
 
 -- The numbers of the items that terms belong to.
 unfoldable pub slots_of : Head → List TermLine → List ℕ

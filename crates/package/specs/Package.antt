@@ -1,10 +1,10 @@
 -- A package: what its bytes are read as, with the first refusal of 1 to 7 in document 01's order.
-use Rattle.std.specs.Prelude.{Bool, true, false, List, [], ℕ, ◌+◌, ltb, length}
+use Rattle.std.specs.Prelude.{true, false, List, [], ℕ, ◌+◌, ltb, length}
 use Rattle.package.specs.Answer.{Answer}
 pub use Rattle.package.specs.Answer.{refused, read}
 unfoldable pub use Rattle.package.specs.Answer.{◌then◌}
 use Rattle.package.specs.Head.{HeadForm, no_head, head, head_form, field_fits, counts_fit}
-use Rattle.package.specs.Names.{head_names, two_house_names, term_names}
+use Rattle.package.specs.Names.{head_names, term_names}
 use Rattle.package.specs.Sums.{SumLine, block3, sums_of}
 use Rattle.package.specs.Terms.{TermLine, start, TermBlock, block2}
 use Rattle.package.specs.declared.Head.{Head}
@@ -32,39 +32,25 @@ unfolding same
 names_line names n (final x) = refused 2 n
 names_line names n (piece l ls) = elim (same l names) [ false ↦ refused 2 n | true ↦ read ls ]
 
--- What line 1 leaves: whether it names a second house, and the lines behind it.
-pub record NamesBlock : Type 0 where
-  pub houses : Bool
-  pub rest : Pieces
-
--- Line 1: the names of block 1, without a second house or with one, these bytes and no others.
-unfoldable pub head_names_line : Pieces → Answer NamesBlock
-unfolding same
-head_names_line (final x) = refused 2 1
-head_names_line (piece l ls) = elim (same l head_names) [
-  | true ↦ read (record { houses = false; rest = ls })
-  | false ↦ elim (same l two_house_names) [ true ↦ read (record { houses = true; rest = ls }) | false ↦ refused 2 1 ]
-]
-
 -- What the line of counts leaves: the counts, and the lines behind it.
 pub record CountsBlock : Type 0 where
   pub head : Head
   pub rest : Pieces
 
 -- What line 2 says: its shape, then 3 for p, then 4 for the other counts.
-unfoldable pub counts_judged : Bool → HeadForm → Pieces → Answer CountsBlock
+unfoldable pub counts_judged : HeadForm → Pieces → Answer CountsBlock
 unfolding field_fits counts_fit
-counts_judged houses no_head ls = refused 2 2
-counts_judged houses (head h) ls = elim (field_fits h.p) [
+counts_judged no_head ls = refused 2 2
+counts_judged (head h) ls = elim (field_fits h.p) [
   | false ↦ refused 3 2
-  | true ↦ elim (counts_fit houses h) [ false ↦ refused 4 2 | true ↦ read (record { head = h; rest = ls }) ]
+  | true ↦ elim (counts_fit h) [ false ↦ refused 4 2 | true ↦ read (record { head = h; rest = ls }) ]
 ]
 
--- Line 2: the counts, where line 1 names a second house or not.
-unfoldable pub counts_line : Bool → Pieces → Answer CountsBlock
+-- Line 2: the counts.
+unfoldable pub counts_line : Pieces → Answer CountsBlock
 unfolding counts_judged head_form pieces
-counts_line houses (final x) = refused 2 2
-counts_line houses (piece l ls) = counts_judged houses (head_form houses (fields l)) ls
+counts_line (final x) = refused 2 2
+counts_line (piece l ls) = counts_judged (head_form (fields l)) ls
 
 -- What the head lines leave: the counts, the number of the first line of block 2, and the lines from there on.
 pub record HeadBlock : Type 0 where
@@ -87,8 +73,8 @@ term_names_line c = names_line term_names 3 c.rest then λ ls. read (record { he
 
 -- Lines 1 to 3: the names of block 1, the counts, the names of block 2.
 unfoldable pub head_lines_of : Pieces → Answer HeadBlock
-unfolding head_names_line counts_line term_names_line ◌then◌
-head_lines_of ls = head_names_line ls then (λ b. counts_line b.houses b.rest) then term_names_line
+unfolding names_line counts_line term_names_line ◌then◌
+head_lines_of ls = names_line head_names 1 ls then counts_line then term_names_line
 
 -- Block 2, behind the head lines.
 unfoldable pub term_block : Limits → HeadBlock → Answer TermBlock

@@ -2,11 +2,11 @@
 use Rattle.std.specs.Prelude.{◌≡◌, true, List, [], ◌∷◌, ℕ, suc, ◌<◌, length}
 use Rattle.algebra.specs.Poly.{Term}
 use Rattle.package.specs.Formula.{row_fits}
-use Rattle.package.specs.Head.{field_fits, has_others, counts_fit}
+use Rattle.package.specs.Head.{field_fits, counts_fit}
 use Rattle.package.specs.Names.{term_g, term_b, sum_b, sum_o}
 use Rattle.package.specs.Package.{Package, package_limits, first_sum}
-use Rattle.package.specs.Sums.{SumLine, sum_kind_fits, sum_fits, sum_follows}
-use Rattle.package.specs.Terms.{TermLine, term_kind_fits, term_fits, LineAbove, start, follows, counted, has_room}
+use Rattle.package.specs.Sums.{SumLine, sum_fits, sum_follows}
+use Rattle.package.specs.Terms.{TermLine, term_fits, LineAbove, start, follows, counted, has_room}
 use Rattle.package.specs.declared.Head.{Head}
 use Rattle.package.specs.declared.Limits.{Limits}
 use Rattle.text.specs.Bytes.{within}
@@ -17,10 +17,9 @@ use Rattle.text.specs.Word.{word}
 abbrev pub under : LineAbove → TermLine → LineAbove
 under a t = record { kind = t.kind; item = t.item; word = t.word; count = counted a t.kind t.item }
 
--- A term behind n terms, below the line above: its kind is one of block 2, H only with a second house, and none of 5, 6, 7 is met.
+-- A term behind n terms, below the line above: its kind is one of block 2, and none of 5, 6, 7 is met.
 pub record TermInOrder (h : Head) (m : Limits) (a : LineAbove) (n : ℕ) (t : TermLine) : Type 0 where
   pub ranked : within term_g term_b t.kind ≡ true
-  pub housed : term_kind_fits h t.kind ≡ true
   pub fits : term_fits h m t.kind t.item t.coef t.word ≡ true
   pub order : follows a t.kind t.item t.word ≡ true
   pub room : has_room m a n t.kind t.item ≡ true
@@ -30,12 +29,10 @@ pub data TermsInOrder (h : Head) (m : Limits) : LineAbove → ℕ → List TermL
   no_terms : {a : LineAbove} {n : ℕ} → TermsInOrder h m a n []
   term_then : {a : LineAbove} {n : ℕ} {t : TermLine} {ts : List TermLine} → TermInOrder h m a n t → TermsInOrder h m (under a t) (suc n) ts → TermsInOrder h m a n (t ∷ ts)
 
--- A sum line with line number n, below a line of kind k' and item i': its kind is one of block 3, C or H only with a second house, its item has at most five
--- digits, and neither 5 nor 6 is met.
+-- A sum line with line number n, below a line of kind k' and item i': its kind is one of block 3, its item has at most five digits, and neither 5 nor 6 is met.
 pub record SumInOrder (h : Head) (m : Limits) (k' i' n : ℕ) (x : SumLine) : Type 0 where
   pub numbered : x.line ≡ n
   pub ranked : within sum_b sum_o x.kind ≡ true
-  pub housed : sum_kind_fits h x.kind ≡ true
   pub digits : x.item < 100000
   pub fits : sum_fits h m x.kind x.item x.coef x.left x.of x.right ≡ true
   pub order : sum_follows k' i' x.kind x.item ≡ true
@@ -45,11 +42,10 @@ pub data SumsInOrder (h : Head) (m : Limits) : ℕ → ℕ → ℕ → List SumL
   no_sums : {k i n : ℕ} → SumsInOrder h m k i n []
   sum_then : {k i n : ℕ} {x : SumLine} {xs : List SumLine} → SumInOrder h m k i n x → SumsInOrder h m x.kind x.item (suc n) xs → SumsInOrder h m k i n (x ∷ xs)
 
--- A package whose counts, terms and sum lines are in bounds and in order. It has a second house where its line 1 names one. Its sum lines are numbered from
--- the line of the first on.
+-- A package whose counts, terms and sum lines are in bounds and in order. Its sum lines are numbered from the line of the first on.
 pub record Readable (P : Package) : Type 0 where
   pub field : field_fits P.head.p ≡ true
-  pub counts : counts_fit (has_others P.head) P.head ≡ true
+  pub counts : counts_fit P.head ≡ true
   pub terms : TermsInOrder P.head package_limits start 0 P.terms
   pub sums : SumsInOrder P.head package_limits 0 0 (first_sum (length P.terms)) P.sums
 

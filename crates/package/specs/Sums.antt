@@ -1,10 +1,8 @@
--- Block 3 holds sum lines, all B, then G, then O, items not falling; lines of one item in any order, repeats allowed. With a second house (document 02,
--- P11) the kinds come as B, C, G, H, O: C writes the basis over its relations, and H writes these over the basis.
+-- Block 3 holds sum lines, all B, then G, then O, items not falling; lines of one item in any order, repeats allowed.
 use Rattle.std.specs.Prelude.{Bool, true, false, List, [], ◌∷◌, ℕ, suc, leb, ltb, eqb}
 use Rattle.package.specs.Answer.{Answer, refused, read}
 use Rattle.package.specs.Bounds.{coef_fits, word_fits_of}
-use Rattle.package.specs.Head.{has_others}
-use Rattle.package.specs.Names.{sum_kinds, sum_b, sum_c, sum_g, sum_h, sum_o}
+use Rattle.package.specs.Names.{sum_kinds, sum_b, sum_g}
 use Rattle.package.specs.declared.Head.{Head}
 use Rattle.package.specs.declared.Limits.{Limits}
 use Rattle.text.specs.Bytes.{within}
@@ -48,31 +46,14 @@ sum_form ps = elim (num_then (rank sum_kinds) ps) [
   ]
 ]
 
--- A line of kind C or H stands only where there is a second house: else it has the wrong shape.
-unfoldable pub sum_kind_fits : Head → ℕ → Bool
-unfolding has_others
-sum_kind_fits h k = elim (eqb k sum_c) [ true ↦ has_others h | false ↦ elim (eqb k sum_h) [ true ↦ has_others h | false ↦ true ] ]
-
--- How many items a kind other than O has: as many as basis polynomials for B, and for C too where there is a second house, else none; as many as relations
--- for G, as those of the second house for H.
-unfoldable pub sum_items : Head → ℕ → ℕ
-unfolding has_others
-sum_items h k = elim (eqb k sum_b) [
-  | true ↦ h.basis
-  | false ↦ elim (eqb k sum_c) [
-    | true ↦ elim (has_others h) [ true ↦ h.basis | false ↦ 0 ]
-    | false ↦ elim (eqb k sum_g) [ true ↦ h.gens | false ↦ h.others ]
-  ]
-]
-
--- An item is one of its kind; an O item has no upper bound but refusal 15's.
+-- The item of a B line is a basis polynomial, of a G line a relation; an O item has no upper bound but refusal 15's.
 unfoldable pub sum_item_fits : Head → ℕ → ℕ → Bool
-unfolding within sum_items
-sum_item_fits h k i = elim (eqb k sum_o) [ true ↦ leb 1 i | false ↦ within 1 (sum_items h k) i ]
+unfolding within
+sum_item_fits h k i = elim (eqb k sum_b) [ true ↦ within 1 h.basis i | false ↦ elim (eqb k sum_g) [ true ↦ within 1 h.gens i | false ↦ leb 1 i ] ]
 
--- `of` names a relation for kind B, one of the second house for C, a basis polynomial for G, H and O.
+-- `of` names a relation for kind B, a basis polynomial for G and O.
 unfoldable pub ofs : Head → ℕ → ℕ
-ofs h k = elim (eqb k sum_b) [ true ↦ h.gens | false ↦ elim (eqb k sum_c) [ true ↦ h.others | false ↦ h.basis ] ]
+ofs h k = elim (eqb k sum_b) [ true ↦ h.gens | false ↦ h.basis ]
 
 -- Not refusal 5: item, coef, `of`, letters and word lengths are in bounds.
 unfoldable pub sum_fits : Head → Limits → ℕ → ℕ → ℕ → List ℕ → ℕ → List ℕ → Bool
@@ -99,14 +80,11 @@ pub data SumVerdict : Type 0 where
 
 -- In one line 2, 5, 6.
 unfoldable pub judged3 : Head → Limits → ℕ → ℕ → SumForm → SumVerdict
-unfolding sum_kind_fits sum_fits sum_follows
+unfolding sum_fits sum_follows
 judged3 h m k' i' no_sum = refused_by 2
-judged3 h m k' i' (sum k i c l o r) = elim (sum_kind_fits h k) [
-  | false ↦ refused_by 2
-  | true ↦ elim (sum_fits h m k i c l o r) [
-    | false ↦ refused_by 5
-    | true ↦ elim (sum_follows k' i' k i) [ false ↦ refused_by 6 | true ↦ accept k i ]
-  ]
+judged3 h m k' i' (sum k i c l o r) = elim (sum_fits h m k i c l o r) [
+  | false ↦ refused_by 5
+  | true ↦ elim (sum_follows k' i' k i) [ false ↦ refused_by 6 | true ↦ accept k i ]
 ]
 
 -- The line l from its bytes.

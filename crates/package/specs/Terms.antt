@@ -1,11 +1,9 @@
--- Block 2 holds terms: all G (relations), then all H (relations of a second house, document 02, P11), then all B (basis), items not falling, words of one
--- item falling.
+-- Block 2 holds terms: all G (relations), then all B (basis), items not falling, words of one item falling.
 use Rattle.std.specs.Prelude.{Bool, true, false, List, [], ◌∷◌, ◌++◌, ℕ, suc, ltb, eqb, length}
 use Rattle.package.specs.Answer.{Answer, refused, read}
 use Rattle.package.specs.Bounds.{coef_fits, word_fits_of}
 use Rattle.words.specs.Below.{is_below}
-use Rattle.package.specs.Head.{has_others}
-use Rattle.package.specs.Names.{sum_names, term_kinds, term_g, term_h}
+use Rattle.package.specs.Names.{sum_names, term_kinds, term_g}
 use Rattle.package.specs.declared.Head.{Head}
 use Rattle.package.specs.declared.Limits.{Limits}
 use Rattle.text.specs.Bytes.{within}
@@ -41,14 +39,9 @@ term_form ps = elim (num_then (rank term_kinds) ps) [
   ]
 ]
 
--- A line of kind H stands only where there is a second house: else it has the wrong shape.
-unfoldable pub term_kind_fits : Head → ℕ → Bool
-unfolding has_others
-term_kind_fits h k = elim (eqb k term_h) [ true ↦ has_others h | false ↦ true ]
-
--- How many items a kind of block 2 has: relations for G, those of the second house for H, basis polynomials for B.
+-- How many items a kind of block 2 has: relations for G, basis polynomials for B.
 unfoldable pub items_of : Head → ℕ → ℕ
-items_of h k = elim (eqb k term_g) [ true ↦ h.gens | false ↦ elim (eqb k term_h) [ true ↦ h.others | false ↦ h.basis ] ]
+items_of h k = elim (eqb k term_g) [ true ↦ h.gens | false ↦ h.basis ]
 
 -- Not refusal 5: item, coef, letters and word length are in bounds.
 unfoldable pub term_fits : Head → Limits → ℕ → ℕ → ℕ → List ℕ → Bool
@@ -69,7 +62,7 @@ pub record LineAbove : Type 0 where
 unfoldable pub start : LineAbove
 start = record { kind = 0; item = 0; word = []; count = 0 }
 
--- Not refusal 6: all G, then all H, then all B, items not falling, words of one item falling.
+-- Not refusal 6: all G, then all B, items not falling, words of one item falling.
 unfoldable pub follows : LineAbove → ℕ → ℕ → List ℕ → Bool
 unfolding is_below
 follows a k i w = elim (eqb k a.kind) [
@@ -93,16 +86,13 @@ pub data TermVerdict : Type 0 where
 
 -- In one line 2, 5, 6, 7.
 unfoldable pub judged : Head → Limits → LineAbove → ℕ → TermForm → TermVerdict
-unfolding term_kind_fits term_fits follows has_room
+unfolding term_fits follows has_room
 judged h m a total no_term = refused_by 2
-judged h m a total (term k i c w) = elim (term_kind_fits h k) [
-  | false ↦ refused_by 2
-  | true ↦ elim (term_fits h m k i c w) [
-    | false ↦ refused_by 5
-    | true ↦ elim (follows a k i w) [
-      | false ↦ refused_by 6
-      | true ↦ elim (has_room m a total k i) [ false ↦ refused_by 7 | true ↦ accept k i c w ]
-    ]
+judged h m a total (term k i c w) = elim (term_fits h m k i c w) [
+  | false ↦ refused_by 5
+  | true ↦ elim (follows a k i w) [
+    | false ↦ refused_by 6
+    | true ↦ elim (has_room m a total k i) [ false ↦ refused_by 7 | true ↦ accept k i c w ]
   ]
 ]
 

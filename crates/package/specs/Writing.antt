@@ -1,8 +1,7 @@
 -- Packages and formulas as they are written: names lines, and a line for the counts, for each term and for each sum line.
-use Rattle.std.specs.Prelude.{Bool, true, false, List, [], ◌∷◌, ℕ}
+use Rattle.std.specs.Prelude.{List, [], ◌∷◌, ℕ}
 use Rattle.algebra.specs.Poly.{Term}
-use Rattle.package.specs.Head.{has_others}
-use Rattle.package.specs.Names.{head_names_of, term_names, sum_names, formula_names, term_kinds, sum_kinds}
+use Rattle.package.specs.Names.{head_names, term_names, sum_names, formula_names, term_kinds, sum_kinds}
 use Rattle.package.specs.Package.{Package}
 use Rattle.package.specs.Sums.{SumLine}
 use Rattle.package.specs.Terms.{TermLine}
@@ -12,15 +11,9 @@ use Rattle.text.specs.Number.{write_number}
 use Rattle.text.specs.Pieces.{Pieces, final, piece, joined, write_fields, write_lines}
 use Rattle.text.specs.Word.{write_word}
 
--- The last fields of line 2: basis, or with a second house others basis.
-unfoldable pub last_fields : Bool → Head → Pieces
-last_fields false h = final (write_number h.basis)
-last_fields true h = piece (write_number h.others) (final (write_number h.basis))
-
--- The fields of line 2, without a second house or with one.
-unfoldable pub head_fields : Bool → Head → Pieces
-unfolding last_fields
-head_fields houses h = piece (write_number h.p) (piece (write_number h.letters) (piece (write_number h.gens) (last_fields houses h)))
+-- The fields of line 2.
+unfoldable pub head_fields : Head → Pieces
+head_fields h = piece (write_number h.p) (piece (write_number h.letters) (piece (write_number h.gens) (final (write_number h.basis))))
 
 -- The fields of a term line: kind item coef word.
 unfoldable pub term_fields : ℕ → ℕ → ℕ → List ℕ → Pieces
@@ -45,15 +38,10 @@ unfolding sum_fields joined
 sum_lines_of [] = final []
 sum_lines_of (x ∷ xs) = piece (write_fields (sum_fields x.kind x.item x.coef x.left x.of x.right)) (sum_lines_of xs)
 
--- Lines 1 to 3, and the lines below them.
-unfoldable pub head_lines_of : Head → Pieces → Pieces
-unfolding head_names_of head_fields joined has_others
-head_lines_of h rest = piece (head_names_of (has_others h)) (piece (write_fields (head_fields (has_others h) h)) (piece term_names rest))
-
 -- The lines of a package.
 unfoldable pub package_lines : Package → Pieces
-unfolding head_lines_of term_lines_of sum_lines_of joined
-package_lines P = head_lines_of P.head (term_lines_of P.terms (piece sum_names (sum_lines_of P.sums)))
+unfolding head_fields term_lines_of sum_lines_of joined
+package_lines P = piece head_names (piece (write_fields (head_fields P.head)) (piece term_names (term_lines_of P.terms (piece sum_names (sum_lines_of P.sums)))))
 
 -- The bytes of a package.
 unfoldable pub write_package : Package → List ℕ

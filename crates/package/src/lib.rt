@@ -11,35 +11,24 @@ pub struct Refusal {
 // The kinds of block 2 by their ranks: terms of relations.
 pub const TERM_G: u32 = 1;
 
-// Terms of the second house's relations.
-pub const TERM_H: u32 = 2;
-
 // Terms of basis polynomials.
-pub const TERM_B: u32 = 3;
+pub const TERM_B: u32 = 2;
 
-// The kinds of block 3 by their ranks: sums over the relations that equal basis polynomials.
+// The kinds of block 3 by their ranks: sums that equal basis polynomials.
 pub const SUM_B: u32 = 1;
 
-// Sums over the second house's relations that equal basis polynomials.
-pub const SUM_C: u32 = 2;
+// Sums that equal relations.
+pub const SUM_G: u32 = 2;
 
-// Sums over the basis that equal relations.
-pub const SUM_G: u32 = 3;
+// Sums that equal differences of overlaps and inclusions.
+pub const SUM_O: u32 = 3;
 
-// Sums over the basis that equal relations of the second house.
-pub const SUM_H: u32 = 4;
-
-// Sums over the basis that equal differences of overlaps and inclusions.
-pub const SUM_O: u32 = 5;
-
-// The value line of block 1: p, which means a field, the number of letters, of relations, of relations of a second house (0: there is none) and of basis
-// polynomials.
+// The value line of block 1: p, which means a field, the number of letters, of relations and of basis polynomials.
 #[derive(Drop)]
 pub struct Head {
     pub p: u32,
     pub letters: u32,
     pub gens: u32,
-    pub others: u32,
     pub basis: u32,
 }
 
@@ -57,20 +46,6 @@ pub enum NamesRead {
     Next(usize),
 }
 
-// Whether line 1 is one of its names lines: no, or whether it names a second house, and where the line behind it starts.
-#[derive(Drop)]
-pub enum HeadNamesRead {
-    Misshapen,
-    Next { houses: bool, at: usize },
-}
-
-// What the end of a line says as the last counts of the value line of block 1: of the second house's relations, and of basis polynomials.
-#[derive(Drop)]
-pub enum LastRead {
-    Misshapen,
-    Counts { others: u32, basis: u32 },
-}
-
 // What a line says as the value line of block 1.
 #[derive(Drop)]
 pub enum HeadRead {
@@ -79,7 +54,6 @@ pub enum HeadRead {
         p: u32,
         letters: u32,
         gens: u32,
-        others: u32,
         basis: u32,
     },
 }

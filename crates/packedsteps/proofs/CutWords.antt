@@ -9,7 +9,7 @@ use Rattle.algebra.specs.Spot.{spot, found}
 use Rattle.algebra.proofs.Spots.{spot-found}
 use Rattle.packedsteps.proofs.SpotsWithin.{spot-within}
 use Rattle.packedwords.specs.Packed.{unpacked, Packs}
-use Rattle.table.specs.Table.{base_in, letter_in, first_in, size_in, blocks_in}
+use Rattle.table.specs.Table.{gens_in, letter_in, first_in, size_in, blocks_in}
 use Rattle.table.specs.Words.{word_of, Sixfold}
 use Rattle.table.specs.Polynomials.{basis_in}
 use Rattle.table.specs.Tabled.{Tabled}
@@ -20,17 +20,17 @@ use Rattle.table.proofs.LeadingTerms.{number_in, LeadTerm, lead-term}
 -- The numbers of a cut: the leading word's letters and those of the whole, and their sizes.
 pub record Cutting (t : List ℕ) (z i g : ℕ) : Type 0 where
   pub leading : LeadTerm t g
-  pub fits : i + size_in t (first_in t (base_in t + g)) % 256 ≤ z % 256
+  pub fits : i + size_in t (first_in t (gens_in t + g)) % 256 ≤ z % 256
   pub short : z % 256 ≤ 72
   pub size : z ≡ 257 * (z % 256)
-  pub lead-size : size_in t (first_in t (base_in t + g)) ≡ 257 * (size_in t (first_in t (base_in t + g)) % 256)
+  pub lead-size : size_in t (first_in t (gens_in t + g)) ≡ 257 * (size_in t (first_in t (gens_in t + g)) % 256)
 
 module _ (t : List ℕ) (T : Tabled t) (z : ℕ) (bs : List ℕ) (h : Sixfold t z bs) (i g : ℕ) (e : spot (basis_in t) (word_of t z bs) ≡ found i g) where
   pub cutting : Cutting t z i g
   cutting =
       let n = number_in t g (spot-found (basis_in t) (word_of t z bs) i g e).0 in
       let L = lead-term t T g n.0 n.1 in
-      let first = first_in t (base_in t + g) in
+      let first = first_in t (gens_in t + g) in
       let within = spot-within (basis_in t) (word_of t z bs) i g e in
       let letters = L.letters in
       let all = word_size t z bs in
@@ -43,10 +43,10 @@ module _ (t : List ℕ) (T : Tabled t) (z : ℕ) (bs : List ℕ) (h : Sixfold t 
       }
 
   -- What the code puts together is a cut.
-  pub cut_made : (item a b : ℕ) (left right : List ℕ) → item ≡ base_in t + g → a ≡ 257 * i → b ≡ z - size_in t (first_in t (base_in t + g)) - 257 * i
+  pub cut_made : (item a b : ℕ) (left right : List ℕ) → item ≡ gens_in t + g → a ≡ 257 * i → b ≡ z - size_in t (first_in t (gens_in t + g)) - 257 * i
       → length left ≡ 6 → Packs i left → unpacked i left ≡ take i (unpacked (z % 256) bs)
-      → length right ≡ 6 → Packs (z % 256 - (i + size_in t (first_in t (base_in t + g)) % 256)) right
-      → unpacked (z % 256 - (i + size_in t (first_in t (base_in t + g)) % 256)) right ≡ drop (i + size_in t (first_in t (base_in t + g)) % 256) (unpacked (z % 256) bs)
+      → length right ≡ 6 → Packs (z % 256 - (i + size_in t (first_in t (gens_in t + g)) % 256)) right
+      → unpacked (z % 256 - (i + size_in t (first_in t (gens_in t + g)) % 256)) right ≡ drop (i + size_in t (first_in t (gens_in t + g)) % 256) (unpacked (z % 256) bs)
       → CutAt t (word_of t z bs) z i g (record { item = item; left = a; right = b }) left right
   cut_made item a b left right ei ea eb six packs word six' packs' word' = record {
     some = C.leading.some;
@@ -65,7 +65,7 @@ module _ (t : List ℕ) (T : Tabled t) (z : ℕ) (bs : List ℕ) (h : Sixfold t 
       C = cutting
 
       e' : ℕ
-      e' = size_in t (first_in t (base_in t + g))
+      e' = size_in t (first_in t (gens_in t + g))
 
       rest : ℕ
       rest = z % 256 - (i + e' % 256)

@@ -17,7 +17,7 @@ use Rattle.algebra.specs.Spot.{spot, found}
 use Rattle.algebra.specs.Steps.{take_away, line_at, stepped}
 use Rattle.algebra.proofs.Spots.{spot-found}
 use Rattle.packedsteps.proofs.NotLonger.{below_length}
-use Rattle.table.specs.Table.{prime_in, base_in, basis_count_in, field_in, order_in, inverse_in, first_in, size_in, blocks_in}
+use Rattle.table.specs.Table.{prime_in, gens_in, basis_count_in, field_in, order_in, inverse_in, first_in, size_in, blocks_in}
 use Rattle.table.specs.Words.{word_of, Sixfold}
 use Rattle.table.specs.Polynomials.{word_in, polynomial_in, basis_in}
 use Rattle.table.specs.Tabled.{Tabled}
@@ -46,26 +46,26 @@ term-held t c l w o n W k h =
 
 -- No word of a basis polynomial is longer than its leading word.
 module _ (t : List ℕ) (T : Tabled t) (g : ℕ) (L : LeadTerm t g) where
-  none_longer : (i : ℕ) → first_in t (base_in t + g) ≤ i → i < first_in t (suc (base_in t + g)) → size_in t i % 256 ≤ size_in t (first_in t (base_in t + g)) % 256
+  none_longer : (i : ℕ) → first_in t (gens_in t + g) ≤ i → i < first_in t (suc (gens_in t + g)) → size_in t i % 256 ≤ size_in t (first_in t (gens_in t + g)) % 256
   none_longer i lo hi = go (dec_lt first i)
     where
       first : ℕ
-      first = first_in t (base_in t + g)
+      first = first_in t (gens_in t + g)
 
       size : (j : ℕ) → length (word_in t j) ≡ size_in t j % 256
       size j = word_size t (size_in t j) (blocks_in t j)
 
-      go : Dec (first_in t (base_in t + g) < i) → size_in t i % 256 ≤ size_in t (first_in t (base_in t + g)) % 256
-      go (no h) = let e : i ≡ first_in t (base_in t + g) = omega arith in rw e (omega arith)
+      go : Dec (first_in t (gens_in t + g) < i) → size_in t i % 256 ≤ size_in t (first_in t (gens_in t + g)) % 256
+      go (no h) = let e : i ≡ first_in t (gens_in t + g) = omega arith in rw e (omega arith)
       go (yes h) =
           let some = L.some in
-          let below = item_falls t T (base_in t + g) (omega arith) L.item (first_in t (base_in t + g)) i (omega arith) h hi in
-          let short = below_length (word_in t i) (word_in t (first_in t (base_in t + g))) below in
-          omega (arith, size i, size (first_in t (base_in t + g)))
+          let below = item_falls t T (gens_in t + g) (omega arith) L.item (first_in t (gens_in t + g)) i (omega arith) h hi in
+          let short = below_length (word_in t i) (word_in t (first_in t (gens_in t + g))) below in
+          omega (arith, size i, size (first_in t (gens_in t + g)))
 
   -- So the products of a step fit where the word that is cut did.
   pub step_fits : {v : Word} {z i : ℕ} {r : Cut} {left right : List ℕ} → CutAt t v z i g r left right → z % 256 ≤ 72
-      → Fits t r.left r.right (first_in t (base_in t + g)) (first_in t (suc (base_in t + g)))
+      → Fits t r.left r.right (first_in t (gens_in t + g)) (first_in t (suc (gens_in t + g)))
   step_fits C short = record { short = λ i lo hi. let e = C.letters in let m = none_longer i lo hi in omega arith }
 
 -- x divided by the leading coefficient of basis polynomial g.
@@ -89,8 +89,8 @@ module _ (t : List ℕ) (T : Tabled t) (x g : ℕ) where
 module _ (t : List ℕ) (u : Term) (z i g : ℕ) (r : Cut) (left right : List ℕ) (C : CutAt t u.word z i g r left right)
     (found_at : spot (basis_in t) u.word ≡ found i g) where
   -- The term is (coefficient of the line) × left × leading term × right.
-  pub step-place : Tabled t → u.coef < prime_in t → family (basis_in t) g ≡ polynomial_in t (base_in t + g)
-      → LeadPlace (field_in t) (divided t u.coef g) (word_of t r.left left) (word_of t r.right right) (polynomial_in t (base_in t + g)) u
+  pub step-place : Tabled t → u.coef < prime_in t → family (basis_in t) g ≡ polynomial_in t (gens_in t + g)
+      → LeadPlace (field_in t) (divided t u.coef g) (word_of t r.left left) (word_of t r.right right) (polynomial_in t (gens_in t + g)) u
   step-place T small e =
       let at = spot-found (basis_in t) u.word i g found_at in
       record {
@@ -107,9 +107,9 @@ module _ (t : List ℕ) (u : Term) (z i g : ℕ) (r : Cut) (left right : List �
     line = ap₂ (λ (x y : Word). record { coef = divided t u.coef g; left = x; of = g; right = y }) C.left_word C.right-word;
   }
 
-  pub step_sum : (f : Poly) → family (basis_in t) g ≡ polynomial_in t (base_in t + g)
+  pub step_sum : (f : Poly) → family (basis_in t) g ≡ polynomial_in t (gens_in t + g)
       → plus (field_in t) (order_in t) f
-      (scale (field_in t) ((field_in t).neg (divided t u.coef g)) (shift (word_of t r.left left) (word_of t r.right right) (polynomial_in t (base_in t + g))))
+      (scale (field_in t) ((field_in t).neg (divided t u.coef g)) (shift (word_of t r.left left) (word_of t r.right right) (polynomial_in t (gens_in t + g))))
       ≡ stepped (field_in t) (order_in t) (basis_in t) f u i g
   unfolding stepped take_away line_at
   step_sum f p = rw (C.left_word, C.right-word, ← p)

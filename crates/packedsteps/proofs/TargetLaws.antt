@@ -21,7 +21,7 @@ use Rattle.packedsteps.specs.declared.Next.TheVariants.{Reduced, Reducible}
 use Rattle.packedsteps.proofs.Targets.{no_spots_next, target_found, target-reduced}
 use Rattle.packedwords.specs.Packed.{Codes, unpacked}
 use Rattle.packedwords.proofs.Packing.{unpacked-codes}
-use Rattle.table.specs.Table.{base_in, basis_count_in, letter_in, first_in, size_in, blocks_in}
+use Rattle.table.specs.Table.{gens_in, basis_count_in, letter_in, first_in, size_in, blocks_in}
 use Rattle.table.specs.Polynomials.{basis_in}
 use Rattle.table.specs.Tabled.{Tabled}
 use Rattle.packedterms.specs.Formula.{word_at, term_at, formula, Working}
@@ -43,7 +43,7 @@ module _ (t : List ℕ) (T : Tabled t) (index : List ℕ) (L : CodeIndexed (lead
   -- the spot of a packed word is that of its letters
   pub packed-spot : (n : ℕ) (bs : List ℕ) → spot_of_words (lead_codes_in t) (unpacked n bs) ≡ spot (basis_in t) (map (letter_in t) (unpacked n bs))
   packed-spot n bs =
-      spot_of_table t T (λ (c : ℕ). c < 32) T.keys.own (lead-codes-all t (base_in t + 1) (basis_count_in t)) (unpacked n bs)
+      spot_of_table t T (λ (c : ℕ). c < 32) T.keys.own (lead-codes-all t (gens_in t + 1) (basis_count_in t)) (unpacked n bs)
       (codes_all (unpacked n bs) (unpacked-codes n bs))
 
   module _ (c l w o : List ℕ) (n : ℕ) where

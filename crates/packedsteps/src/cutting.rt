@@ -13,7 +13,7 @@ use crate::Cut;
 use packing::part::{left_part, right_part};
 use packing::product::copy_place;
 use table::Table;
-use table::numbers::{base_in, first_in, size_in};
+use table::numbers::{first_in, gens_in, size_in};
 
 // Copies the six blocks at place s to word: where the sum is made they do not stay.
 pub fn take_place(word: &mut [u64; 6], w: &[u64; 3360], s: usize)
@@ -49,7 +49,7 @@ pub fn cut(
     requires word_value { spot (basis_in t.now) (word_of t.now z word.now) ≡ found i of }
     ensures { CutAt t.now (word_of t.now z word.now) z i of result left.new right.new }
 {
-    let item = base_in(t) + of;
+    let item = gens_in(t) + of;
     let e = lead_size(t, item);
     let m = z % 256;
     left_part(left, word, m, i);

@@ -2,46 +2,34 @@
 
 ghost use Rattle.std.specs.Prelude.{◌≡◌, ◌≤◌, length, drop};
 ghost use Rattle.text.specs.Pieces.{lines};
-ghost use Rattle.package.specs.Names.{term_names};
-ghost use Rattle.package.specs.Package.{names_line, head_names_line, counts_line, head_lines_of};
-ghost use Rattle.package.specs.Held.{seen_names, NamesHeld, seen_head_names, HeadNamesHeld, seen_counts, CountsHeld, seen_head_lines, HeadHeld};
+ghost use Rattle.package.specs.Names.{head_names, term_names};
+ghost use Rattle.package.specs.Package.{names_line, counts_line, head_lines_of};
+ghost use Rattle.package.specs.Held.{seen_names, NamesHeld, seen_counts, CountsHeld, seen_head_lines, HeadHeld};
 
 use linetests::counts::{counts_fit, field_fits, read_head};
-use linetests::names::{is_head_names, is_term_names, is_two_house_names};
-use package::{
-    CountsAt, CountsRead, Head, HeadAt, HeadEnded, HeadNamesRead, HeadRead, NamesRead, Refusal,
-};
+use linetests::names::{is_head_names, is_term_names};
+use package::{CountsAt, CountsRead, Head, HeadAt, HeadEnded, HeadRead, NamesRead, Refusal};
 use text::bytes::find;
 
-// Line 1, the names of block 1 without a second house or with one, which starts the text.
-fn read_head_names(s: &[u8]) -> HeadNamesRead
-    ensures result_value { seen_head_names s.now result ≡ head_names_line (lines s.now) }
-    ensures head_names_held { HeadNamesHeld s.now result }
+// Line 1, the names of block 1, which starts the text.
+fn read_head_names(s: &[u8]) -> NamesRead
+    ensures result_value { seen_names s.now 1 result ≡ names_line head_names 1 (lines s.now) }
+    ensures names_held { NamesHeld s.now result }
 {
     let e = find(s, 0, 10);
     if s.len() <= e {
-        return HeadNamesRead::Misshapen;
+        return NamesRead::Misshapen;
     }
-    let next = e + 1;
-    if is_head_names(&s[0..e]) {
-        return HeadNamesRead::Next {
-            houses: false,
-            at: next,
-        };
+    if !is_head_names(&s[0..e]) {
+        return NamesRead::Misshapen;
     }
-    if is_two_house_names(&s[0..e]) {
-        return HeadNamesRead::Next {
-            houses: true,
-            at: next,
-        };
-    }
-    HeadNamesRead::Misshapen
+    NamesRead::Next(e + 1)
 }
 
-// Line 2, the counts, which starts at the place from: its shape, then 3 for p, then 4 for the other counts. Line 1 names a second house or not.
-fn read_counts(houses: bool, s: &[u8], from: usize) -> CountsRead
+// Line 2, the counts, which starts at the place from: its shape, then 3 for p, then 4 for the other counts.
+fn read_counts(s: &[u8], from: usize) -> CountsRead
     requires { from ≤ length s.now }
-    ensures result_value { seen_counts s.now result ≡ counts_line houses (lines (drop from s.now)) }
+    ensures result_value { seen_counts s.now result ≡ counts_line (lines (drop from s.now)) }
     ensures counts_held { CountsHeld s.now result }
 {
     let e = find(s, from, 10);
@@ -55,9 +43,8 @@ fn read_counts(houses: bool, s: &[u8], from: usize) -> CountsRead
         p,
         letters,
         gens,
-        others,
         basis,
-    } = read_head(houses, &s[from..e])
+    } = read_head(&s[from..e])
     else {
         return CountsRead::Refused(Refusal {
             number: 2,
@@ -74,10 +61,9 @@ fn read_counts(houses: bool, s: &[u8], from: usize) -> CountsRead
         p: p,
         letters: letters,
         gens: gens,
-        others: others,
         basis: basis,
     };
-    if !counts_fit(houses, h) {
+    if !counts_fit(h) {
         return CountsRead::Refused(Refusal {
             number: 4,
             place: 2,
@@ -108,13 +94,13 @@ pub fn read_head_lines(s: &[u8]) -> HeadEnded
     ensures result_value { seen_head_lines s.now result ≡ head_lines_of (lines s.now) }
     ensures head_held { HeadHeld s.now result }
 {
-    let HeadNamesRead::Next { houses, at: a } = read_head_names(s) else {
+    let NamesRead::Next(a) = read_head_names(s) else {
         return HeadEnded::Refused(Refusal {
             number: 2,
             place: 1,
         });
     };
-    let r = read_counts(houses, s, a);
+    let r = read_counts(s, a);
     let c = match r {
         CountsRead::Refused(v) => {
             return HeadEnded::Refused(v);

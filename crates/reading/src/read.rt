@@ -2,7 +2,7 @@
 
 ghost use Rattle.std.specs.Prelude.{◌≡◌, ◌+◌, ◌≤◌, length};
 ghost use Rattle.package.specs.Package.{read_package};
-ghost use Rattle.package.specs.Held.{seen_all, count_all, WordsInside, BoundsHeld, spot_all, line_all, LineHeld, FirstsHeld};
+ghost use Rattle.package.specs.Held.{seen_all, count_all, WordsInside, gens_all, basis_all, spot_all, line_all, LineHeld, FirstsHeld};
 
 use crate::head_lines::read_head_lines;
 use package::{HeadEnded, Limits, Reading, Refusal, SumsEnded, TermsEnded};
@@ -22,10 +22,10 @@ pub fn read_package(
     lens: &mut [u8],
     firsts: &mut [usize],
 ) -> Reading
-    requires { (length kinds.old ≡ 1024) × (length items.old ≡ 1024) × (length coefs.old ≡ 1024) × (length starts.old ≡ 1024) × (length lens.old ≡ 1024) × (length firsts.old ≡ 130) }
+    requires { (length kinds.old ≡ 1024) × (length items.old ≡ 1024) × (length coefs.old ≡ 1024) × (length starts.old ≡ 1024) × (length lens.old ≡ 1024) × (length firsts.old ≡ 98) }
     ensures result_after { seen_all s.now kinds.new items.new coefs.new starts.new lens.new result ≡ read_package s.now }
     ensures result_bound { (count_all result ≤ 1024) × WordsInside s.now starts.new lens.new (count_all result) }
-    ensures bounds_held { BoundsHeld result }
+    ensures result_bound_2 { (gens_all result ≤ 32) × (basis_all result ≤ 64) }
     ensures result_in_bounds { (spot_all result ≤ length s.now) × (line_all result ≤ spot_all result + 4) × LineHeld result }
     ensures firsts_held { FirstsHeld kinds.new items.new firsts.new result }
 {

@@ -2,7 +2,7 @@
 use mathlib.Core.Path.{◌≡◌, refl}
 use mathlib.Core.Bool.{Bool, true, false}
 use mathlib.Core.List.{List, [], ◌∷◌}
-use Prim.Native.Nat.{ℕ, ◌<◌}
+use Prim.Native.Nat.{ℕ}
 use lib.Dec.{ltb}
 use lib.ListN.{length}
 use Rattle.field.specs.Field.{field_of}
@@ -41,21 +41,18 @@ module _ (Q : ℕ → Type 0) where
       go (refusal n k) y = y
       go fine y = tt
 
-  -- What 8 gives may depend on the package, and so may what 28 and 29 give.
+  -- What 8 gives may depend on the package.
   module _ (bytes : List ℕ) (eight : (P : Package) → read_package bytes ≡ read P → Judged Q (zeros_judged (basis P) 1)) where
-    pub acceptance_by : ((n : ℕ) → Between 10 15 n → Q n)
-        → ((P : Package) → read_package bytes ≡ read P → 0 < P.head.others → (n : ℕ) → Between 28 29 n → Q n)
-        → Numbered Q (read_package bytes) → Numbered Q (acceptance bytes)
+    pub acceptance_by : ((n : ℕ) → Between 10 15 n → Q n) → Numbered Q (read_package bytes) → Numbered Q (acceptance bytes)
     unfolding acceptance
-    acceptance_by h o = judged-number checked (read_package bytes) (λ P e. check-judged Q P (eight P e) h (o P e))
+    acceptance_by h = judged-number checked (read_package bytes) (λ P e. check-judged Q P (eight P e) h)
 
     pub listable_by : Numbered Q (read_package bytes) → Numbered Q (listable bytes)
     unfolding listable
     listable_by = judged-number (λ P. basis_judged (basis P)) (read_package bytes) (λ P e. basis-judged Q (basis P) (eight P e))
 
-  pub acceptance-has : Q 8 → ((n : ℕ) → Between 10 15 n → Q n) → ((n : ℕ) → Between 28 29 n → Q n)
-      → (bytes : List ℕ) → Numbered Q (read_package bytes) → Numbered Q (acceptance bytes)
-  acceptance-has q h o bytes = acceptance_by bytes (λ P e. zeros-number Q q (basis P) 1) h (λ P e l. o)
+  pub acceptance-has : Q 8 → ((n : ℕ) → Between 10 15 n → Q n) → (bytes : List ℕ) → Numbered Q (read_package bytes) → Numbered Q (acceptance bytes)
+  acceptance-has q h bytes = acceptance_by bytes (λ P e. zeros-number Q q (basis P) 1) h
 
   pub listable-has : Q 8 → (bytes : List ℕ) → Numbered Q (read_package bytes) → Numbered Q (listable bytes)
   listable-has q bytes = listable_by bytes (λ P e. zeros-number Q q (basis P) 1)

@@ -18,8 +18,7 @@ use Rattle.services.proofs.AnswerNumbers.{acceptance-has, listable-has, Reductio
 -- Only these packages get 3.
 module _ (bytes : List ℕ) where
   acceptance_3 : Numbered (OnlyNoField bytes) (acceptance bytes)
-  acceptance_3 = acceptance-has (OnlyNoField bytes) (other bytes 8 (λ e. omega arith)) (λ n x. other bytes n (λ e. omega (arith, x.0))) (λ n x. other bytes n (λ e. omega (arith, x.0)))
-      bytes (read_3 bytes)
+  acceptance_3 = acceptance-has (OnlyNoField bytes) (other bytes 8 (λ e. omega arith)) (λ n x. other bytes n (λ e. omega (arith, x.0))) bytes (read_3 bytes)
 
   reduction_3 : (text : List ℕ) (budget : ℕ) → ReductionNumber (OnlyNoField bytes) (reduction bytes text budget)
   reduction_3 text budget =

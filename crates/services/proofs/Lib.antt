@@ -4,7 +4,6 @@ pub mod AnswerNumbers
 pub mod ServiceNumbers
 pub mod FieldRefusals
 pub mod ZeroRefusals
-pub mod HouseRefusals
 pub mod Refusals
 pub mod Room
 pub mod OutputStart
@@ -17,10 +16,8 @@ pub mod StepsByRule
 pub mod RunsByRule
 pub mod DefinedAnswers
 pub mod ShortForms
-pub mod TwoHouses
 pub mod Demands
 pub mod Budgets
 pub mod Rows
 pub mod TrivialBases
 pub mod Examples
-pub mod TwoHouseExamples

@@ -24,7 +24,7 @@ use Rattle.services.specs.Services.{listable, check_answer, checked_as, words_li
 use Rattle.services.specs.Demands.{Between, Refusing, AcceptedAs, ReadAs}
 use Rattle.package.proofs.ReadingNumbers.{Numbered}
 use Rattle.services.proofs.AnswerNumbers.{ReductionNumber}
-use Rattle.services.proofs.ServiceNumbers.{refusing_some, listable-number, reduction-number}
+use Rattle.services.proofs.ServiceNumbers.{listable-number, reduction-number}
 
 -- What is judged to be read was read.
 judged-read : (judge : Package → Verdict) (o : Outcome) (P : Package) → judged_by judge o ≡ read P → o ≡ read P
@@ -104,7 +104,7 @@ short_ran bytes text budget room e = go (reduction bytes text budget) refl (redu
 
     go : (r : Reduction) → reduction bytes text budget ≡ r → ReductionNumber (Refusing 18) r → (short_answer room r).number ≡ 0
         → (N : Poly) × (m : ℕ) × (reduction bytes text budget ≡ short_form N m) × (length (write_formula N) ≤ room) × RanTo bytes text budget N m
-    go (refused_by n k) q x z = absurd (omega (arith, refusing_some 18 n x))
+    go (refused_by n k) q ((a, b), c) z = absurd (omega arith)
     go (short_form N m) q x z = (N, m, q, by N m (ltb room (length (write_formula N))) refl z, reduction_ran bytes text budget N m q)
 
 -- Membership.
@@ -115,5 +115,5 @@ member_ran bytes text budget e = go (reduction bytes text budget) refl (reductio
   where
     go : (r : Reduction) → reduction bytes text budget ≡ r → ReductionNumber (Refusing 18) r → (member_answer r).number ≡ 0
         → (N : Poly) × (m : ℕ) × (reduction bytes text budget ≡ short_form N m) × RanTo bytes text budget N m
-    go (refused_by n k) q x z = absurd (omega (arith, refusing_some 18 n x))
+    go (refused_by n k) q ((a, b), c) z = absurd (omega arith)
     go (short_form N m) q x z = (N, m, q, reduction_ran bytes text budget N m q)

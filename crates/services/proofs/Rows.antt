@@ -13,7 +13,7 @@ use Rattle.algebra.specs.Poly.{Poly}
 use Rattle.algebra.specs.Steps.{Ended, answer, over, spent, run}
 use Rattle.text.specs.Word.{word, word_of}
 use Rattle.package.specs.Formula.{FormulaOutcome, wrong_at, formula, read_formula}
-use Rattle.package.specs.Package.{Package, refused, read}
+use Rattle.package.specs.Package.{Package, read}
 use Rattle.package.specs.Writing.{write_formula}
 use Rattle.overlaps.specs.Overlaps.{leads, overlaps}
 use Rattle.overlaps.specs.Listing.{overlap_text}
@@ -21,7 +21,7 @@ use Rattle.acceptance.specs.Content.{basis}
 use Rattle.acceptance.specs.Acceptance.{acceptance}
 use Rattle.acceptance.specs.Reduction.{formula_limits, refused_by, short_form, reduction_of, formula_reduced, package_reduced, reduction}
 use Rattle.services.specs.Services.{listable, check_answer, checked_as, list_answer, listed_as, list_output, listed_into, short_answer, shortened_as, short_output, shortened_into, member_answer, membership_as}
-use Rattle.services.specs.Examples.{Shortens, IsAbove, Lists, IsAccepted, IsTurned, IsMember, Refuses}
+use Rattle.services.specs.Examples.{Shortens, IsAbove, Lists, IsAccepted, IsMember, Refuses}
 use Rattle.services.proofs.Budgets.{run_more, run-fewer}
 use Rattle.services.proofs.Room.{no_room, no_room-kept, room_listed, short_no_room, short-room}
 use Rattle.services.proofs.OutputStart.{fitted-start}
@@ -128,13 +128,3 @@ lists {P = P} acc c t = rw (← t, ← c) (record {
 pub accepts : {bytes : List ℕ} {P : Package} → acceptance bytes ≡ read P → {count : ℕ} → length (overlaps (leads (basis P))) ≡ count → IsAccepted bytes count
 unfolding checked_as check_answer
 accepts acc c = record { answered = ap check_answer acc ∙ rw c refl }
-
--- A row of a refused package.
-pub turns : {bytes : List ℕ} {n k : ℕ} → acceptance bytes ≡ refused n k → IsTurned bytes n k
-unfolding checked_as check_answer
-turns acc = record { answered = ap check_answer acc }
-
-pub turns_short : {bytes : List ℕ} {n k : ℕ} → acceptance bytes ≡ refused n k → {text : List ℕ} {budget room : ℕ} → Refuses bytes text budget room n k
-unfolding shortened_as shortened_into short_answer short_output reduction package_reduced
-turns_short acc {text} {budget} {room} =
-    let r = ap (package_reduced text budget) acc in record { kept = λ out l. (ap (short_answer room) r, ap (short_output out) r) }

@@ -126,6 +126,6 @@ module _ (bytes : List ℕ) (P : Package) (acc : AcceptedAs bytes P) where
       let u = written_is bytes P package_accepted_as text₁ f x budget₁ M m d out₁ a in
       let v = written_is bytes P package_accepted_as text₂ g y budget₂ N n e out₂ b in
       let i = short_iff (readable-field P readable) word-order-admissible basis-accepted s t in (
-        λ q. i.0 (text_unique P.head.p P.head.letters bounds.most bounds.counts.letters M N s.written k t.written l (sym u ∙ q ∙ v)),
+        λ q. i.0 (text_unique P.head.p P.head.letters bounds.most bounds.letters M N s.written k t.written l (sym u ∙ q ∙ v)),
         λ q. u ∙ ap write_formula (i.1 q) ∙ sym v,
       )

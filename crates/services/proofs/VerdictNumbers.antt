@@ -1,8 +1,8 @@
--- A package that reads is refused by 8, by one of 10 to 15, or, where it has a second house, by 28 or 29; where the basis alone is judged, by 8. Each law says
--- that a refusal's number has every property Q that the numbers of that judgement have.
+-- A package that reads is refused by 8 or by one of 10 to 15; where the basis alone is judged, by 8. Each law says that a refusal's number has
+-- every property Q that the numbers of that judgement have.
 use mathlib.Core.Bool.{Bool, true, false}
 use mathlib.Core.List.{List, [], ◌∷◌}
-use Prim.Native.Nat.{ℕ, suc, ◌≤◌, ◌<◌}
+use Prim.Native.Nat.{ℕ, suc, ◌≤◌}
 use native.Mathlib.Omega.{arith}
 use lib.Dec.{eqb, ltb, lit≤}
 use lib.ListN.{length}
@@ -17,9 +17,8 @@ use Rattle.overlaps.specs.Overlaps.{leads, overlaps, overlap_word, difference}
 use Rattle.package.specs.Names.{sum_o}
 use Rattle.package.specs.Sums.{SumLine}
 use Rattle.package.specs.Package.{Package}
-use Rattle.acceptance.specs.Content.{relations, other_relations, basis, sum_of}
-use Rattle.acceptance.specs.Check.{Verdict, refusal, fine, then_judge, zeros_judged, Left, fails, over, rest, less, any_line, is_under, sum_verdict, sums_judged, Side, other_targets, sides, kinds_judged, items_judged, overlaps_judged, basis_judged, sums_verdict, checked}
-use Rattle.acceptance.proofs.ReadableContent.{others-length}
+use Rattle.acceptance.specs.Content.{relations, basis, sum_of}
+use Rattle.acceptance.specs.Check.{Verdict, refusal, fine, then_judge, zeros_judged, Left, fails, over, rest, less, any_line, is_under, sum_verdict, sums_judged, Side, sides, kinds_judged, items_judged, overlaps_judged, basis_judged, sums_verdict, checked}
 use Rattle.services.specs.Demands.{Between}
 
 module _ (Q : ℕ → Type 0) where
@@ -46,22 +45,20 @@ module _ (Q : ℕ → Type 0) where
   left-number q u r i (rest []) = tt
   left-number q u r i (rest (t ∷ f)) = r
 
-  -- a kind without targets is not refused
-  sums-number : Q 10 → Q 14 → (n k : ℕ) (K : Operations) (O : Order) (G : Family) (ss : List SumLine) (fs : List Poly) (i : ℕ) → (0 < length fs → Q n)
+  sums-number : Q 10 → Q 14 → {n : ℕ} → Q n → (k : ℕ) (K : Operations) (O : Order) (G : Family) (ss : List SumLine) (fs : List Poly) (i : ℕ)
       → Judged (sums_judged n k K O G ss fs i)
   unfolding Judged sums_judged
-  sums-number q u n k K O G ss [] i r = tt
-  sums-number q u n k K O G ss (f ∷ fs) i r =
+  sums-number q u r k K O G ss [] i = tt
+  sums-number q u {n} r k K O G ss (f ∷ fs) i =
       then-number (sum_verdict n i (less any_line K O G f (sum_of k i ss))) (sums_judged n k K O G ss fs (suc i))
-      (left-number q u (r (omega arith)) i (less any_line K O G f (sum_of k i ss))) (sums-number q u n k K O G ss fs (suc i) (λ l. r (omega arith)))
+      (left-number q u r i (less any_line K O G f (sum_of k i ss))) (sums-number q u r k K O G ss fs (suc i))
 
-  kinds_number : Q 10 → Q 14 → (K : Operations) (O : Order) (ss : List SumLine) (xs : List Side) → All (λ x. 0 < length x.targets → Q x.number) xs
-      → Judged (kinds_judged K O ss xs)
+  kinds_number : Q 10 → Q 14 → (K : Operations) (O : Order) (ss : List SumLine) (xs : List Side) → All (λ x. Q x.number) xs → Judged (kinds_judged K O ss xs)
   unfolding Judged kinds_judged
   kinds_number q u K O ss [] done = tt
   kinds_number q u K O ss (x ∷ xs) (r also rs) =
-      then-number (sums_judged x.number x.kind K O (family x.sources) ss x.targets 1) (kinds_judged K O ss xs)
-      (sums-number q u x.number x.kind K O (family x.sources) ss x.targets 1 r) (kinds_number q u K O ss xs rs)
+      then-number (sums_judged x.number x.kind K O (family x.others) ss x.targets 1) (kinds_judged K O ss xs)
+      (sums-number q u r x.kind K O (family x.others) ss x.targets 1) (kinds_number q u K O ss xs rs)
 
   items-number : Q 15 → (count : ℕ) (ss : List SumLine) → Judged (items_judged count ss)
   unfolding Judged items_judged
@@ -87,33 +84,22 @@ module _ (Q : ℕ → Type 0) where
   unfolding basis_judged
   basis-judged ps q = q
 
-  -- There is something to write over the second house's relations only where there is a second house.
-  targets_house : (hs ps : List Poly) → 0 < length (other_targets hs ps) → 0 < length hs
-  unfolding other_targets
-  targets_house [] ps l = l
-  targets_house (h ∷ hs) ps l = omega arith
-
-  -- The check refuses a package that reads by what 8 gives, by one of 10 to 15, or with a second house by 28 or 29.
-  pub check-judged : (P : Package) → Judged (zeros_judged (basis P) 1) → ((n : ℕ) → Between 10 15 n → Q n)
-      → (0 < P.head.others → (n : ℕ) → Between 28 29 n → Q n) → Judged (checked P)
+  -- The check refuses a package that reads by what 8 gives, or by one of 10 to 15.
+  pub check-judged : (P : Package) → Judged (zeros_judged (basis P) 1) → ((n : ℕ) → Between 10 15 n → Q n) → Judged (checked P)
   unfolding checked sums_verdict
-  check-judged P q h o =
+  check-judged P q h =
       let K = field_of P.head.p in
       let rs = relations P in
-      let hs = other_relations P in
       let ps = basis P in
       let ss = P.sums in
       let ten = h 10 (lit≤ tt, lit≤ tt) in
       let fourteen = h 14 (lit≤ tt, lit≤ tt) in
-      let house : (n : ℕ) → Between 28 29 n → 0 < length hs → Q n = λ n b l. o (rw (others-length P) at l) n b in
       then-number (basis_judged ps) _ (basis-judged ps q)
-      (then-number (kinds_judged K word_order ss (sides rs hs ps)) _
-      (kinds_number ten fourteen K word_order ss (sides rs hs ps)
-      ((λ l. h 11 (lit≤ tt, lit≤ tt)) also (λ l. house 28 (lit≤ tt, lit≤ tt) (targets_house hs ps l))
-      also (λ l. h 12 (lit≤ tt, lit≤ tt)) also (λ l. house 29 (lit≤ tt, lit≤ tt) l) also done))
+      (then-number (kinds_judged K word_order ss (sides rs ps)) _
+      (kinds_number ten fourteen K word_order ss (sides rs ps) (h 11 (lit≤ tt, lit≤ tt) also h 12 (lit≤ tt, lit≤ tt) also done))
       (then-number (items_judged (length (overlaps (leads ps))) ss) _ (items-number (h 15 (lit≤ tt, lit≤ tt)) (length (overlaps (leads ps))) ss)
       (overlaps-number ten (h 13 (lit≤ tt, lit≤ tt)) fourteen K word_order (family ps) ss (overlaps (leads ps)) 1)))
 
 -- The check refuses a package that reads by a number that is not 0.
 pub check-number : (P : Package) → Judged (λ n. 1 ≤ n) (checked P)
-check-number P = check-judged (λ n. 1 ≤ n) P (zeros-number (λ n. 1 ≤ n) (lit≤ tt) (basis P) 1) (λ n x. omega (arith, x.0)) (λ l n x. omega (arith, x.0))
+check-number P = check-judged (λ n. 1 ≤ n) P (zeros-number (λ n. 1 ≤ n) (lit≤ tt) (basis P) 1) (λ n x. omega (arith, x.0))

@@ -9,7 +9,7 @@ use Rattle.words.specs.Order.{word_order}
 use Rattle.algebra.specs.Poly.{Poly}
 use Rattle.package.specs.Package.{Package, Outcome, refused, read, read_package}
 use Rattle.package.proofs.ReadingNumbers.{Numbered, read_known}
-use Rattle.acceptance.specs.Content.{relations, other_relations, basis}
+use Rattle.acceptance.specs.Content.{relations, basis}
 use Rattle.acceptance.specs.Check.{Verdict, refusal, fine, then_judge, zeros_judged, basis_judged, sums_verdict, checked}
 use Rattle.acceptance.specs.Acceptance.{judged_by, acceptance}
 use Rattle.acceptance.specs.Reduction.{package_reduced, reduction}
@@ -42,8 +42,7 @@ module _ (bytes : List ℕ) where
   reading_8 = outcome_weaker (Between 1 7) OnlyZero (λ n x. other n (λ e. omega (arith, x.1))) (read_package bytes) (read_known bytes)
 
   acceptance_8 : Numbered OnlyZero (acceptance bytes)
-  acceptance_8 =
-      acceptance_by OnlyZero bytes eight (λ n x. other n (λ e. omega (arith, x.0))) (λ P e l n x. other n (λ q. omega (arith, x.0))) reading_8
+  acceptance_8 = acceptance_by OnlyZero bytes eight (λ n x. other n (λ e. omega (arith, x.0))) reading_8
 
   reduction_8 : (text : List ℕ) (budget : ℕ) → ReductionNumber OnlyZero (reduction bytes text budget)
   reduction_8 text budget =
@@ -74,7 +73,7 @@ basis_8 ps i z = refusal_of_zero ps i z
 checked_8 : (P : Package) (i : ℕ) → FirstZero (basis P) i → checked P ≡ refusal 8 i
 unfolding checked then_judge
 checked_8 P i z =
-    ap (λ (v : Verdict). then_judge v (sums_verdict (field_of P.head.p) word_order (relations P) (other_relations P) (basis P) P.sums)) (basis_8 (basis P) i z)
+    ap (λ (v : Verdict). then_judge v (sums_verdict (field_of P.head.p) word_order (relations P) (basis P) P.sums)) (basis_8 (basis P) i z)
 
 module _ (bytes : List ℕ) (i : ℕ) (z : ZeroBasis bytes i) where
   accepted_8 : acceptance bytes ≡ refused 8 i

@@ -25,7 +25,7 @@ use Rattle.package.specs.Writing.{write_formula, write_package}
 use Rattle.overlaps.specs.Pairs.{Pair, IsPair, Before, Rising}
 use Rattle.overlaps.specs.Overlaps.{leads}
 use Rattle.overlaps.specs.Listing.{overlap_names, overlap_lines}
-use Rattle.acceptance.specs.Content.{relations, other_relations, basis}
+use Rattle.acceptance.specs.Content.{relations, basis}
 use Rattle.acceptance.specs.Facts.{Acceptable}
 use Rattle.acceptance.specs.ZeroBasis.{ZeroBasis}
 use Rattle.acceptance.specs.Reduction.{formula_limits, Reduction, refused_by, short_form, reduction}
@@ -60,15 +60,15 @@ refused_short n k = record { number = n; place = k; steps = 0; written = 0 }
 abbrev pub Between : ℕ → ℕ → ℕ → Type 0
 Between lo hi n = (lo ≤ n) × (n ≤ hi)
 
--- A refusal by one of 1 to hi, but not by 9, which is no longer met (document 02, P2); or by 28 or 29, for a sum of the second house (document 02, P11).
+-- A refusal by one of 1 to hi. 9 is not among them: it is no longer met (document 02, P2).
 abbrev pub Refusing : ℕ → ℕ → Type 0
-Refusing hi n = (Between 1 hi n × (n ≢ 9)) ⊎ Between 28 29 n
+Refusing hi n = Between 1 hi n × (n ≢ 9)
 
 -- An answer has number 0 and place 0.
 abbrev pub Success : ℕ → ℕ → Type 0
 Success number place = (number ≡ 0) × (place ≡ 0)
 
--- The check answers, or it refuses by one of 1 to 15, but not by 9, or by 28 or 29, and counts no pair.
+-- The check answers, or it refuses by one of 1 to 15, but not by 9, and counts no pair.
 abbrev pub CheckEnds : Checked → Type 0
 CheckEnds a = Success a.number a.place ⊎ (Refusing 15 a.number × (a.overlaps ≡ 0))
 
@@ -78,13 +78,12 @@ ListEnds a before after =
     Success a.number a.place
     ⊎ ((Between 1 8 a.number ⊎ (a.number ≡ 19)) × (a.overlaps ≡ 0) × (a.written ≡ 0) × (after ≡ before))
 
--- The short form service answers, or it refuses by one of 1 to 19, but not by 9, or by 28 or 29, with both counts 0, and the output slice is after it what it
--- was before.
+-- The short form service answers, or it refuses by one of 1 to 19, but not by 9, with both counts 0, and the output slice is after it what it was before.
 abbrev pub ShortEnds : Shortened → List ℕ → List ℕ → Type 0
 ShortEnds a before after =
     Success a.number a.place ⊎ (Refusing 19 a.number × (a.steps ≡ 0) × (a.written ≡ 0) × (after ≡ before))
 
--- Membership answers, or it refuses by one of 1 to 18, but not by 9, or by 28 or 29, with 0 steps and no. It never gives 19: it has no output slice.
+-- Membership answers, or it refuses by one of 1 to 18, but not by 9, with 0 steps and no. It never gives 19: it has no output slice.
 abbrev pub MemberEnds : Membership → Type 0
 MemberEnds a = Success a.number a.place ⊎ (Refusing 18 a.number × (a.steps ≡ 0) × (a.member ≡ 0))
 
@@ -99,7 +98,7 @@ pub record Demand1 : Type 0 where
 
 -- ==== Demand 2: what is answered is what document 01 says
 
--- The facts of acceptance of document 01, with document 02's P2, P4 and P11, hold of the bytes: they are the text of a package, at most 65,536 of them, that
+-- The facts of acceptance of document 01, with document 02's P2 and P4, hold of the bytes: they are the text of a package, at most 65,536 of them, that
 -- reads, and of which hold the facts about its basis, its overlaps and inclusions, and its sums (acceptance/specs/Facts.antt).
 pub record FactsHold (bytes : List ℕ) : Type 0 where
   pub content : Package
@@ -118,12 +117,6 @@ pub record EachRefuses (bytes : List ℕ) (n k : ℕ) : Type 0 where
 -- The bytes read as a package that has a zero polynomial in its basis.
 abbrev pub SomeZero : List ℕ → Type 0
 SomeZero bytes = (i : ℕ) × ZeroBasis bytes i
-
--- The bytes read as a package that has a second house.
-pub record SecondHouse (bytes : List ℕ) : Type 0 where
-  pub content : Package
-  pub reads : read_package bytes ≡ read content
-  pub some : 0 < content.head.others
 
 -- The list holds the overlaps of the package's leading words by 01's sentence and their inclusions by 02's (P2), all of them and nothing else: every
 -- overlap before every inclusion, by first, then second, then shared or place, all rising.
@@ -188,17 +181,17 @@ pub record DecidesBySteps (P : Package) (f : Poly) (a : Membership) : Type 0 whe
 -- Demand 2. A package is accepted exactly when document 01's facts hold of it; every service refuses exactly when 01 says so, with the number and place
 -- given there; and the list of pairs, each rewriting step, the step count, the short form and the yes or no of membership are those of 01's definitions.
 -- What document 02 changes of 01 is said where it does: refusal 3 (P9); refusal 8, steps and differences (P4); inclusions, and refusal 9, which is no
--- longer met (P2); a second house, with refusals 28 and 29 (P11).
+-- longer met (P2).
 --
--- Numbers and places of the check and of listing are those of their definitions (package/specs/Package.antt for 1 to 7, acceptance/specs/Check.antt for 8,
--- 10 to 15, 28 and 29: the first refusal in the order of 01 and 02), since each contract is equality with Services.antt. The fields below say the rest, in 01's words.
+-- Numbers and places of the check and of listing are those of their definitions (package/specs/Package.antt for 1 to 7, acceptance/specs/Check.antt for 8
+-- and 10 to 15: the first refusal in 01's order), since each contract is equality with Services.antt. The fields below say the rest, in 01's words.
 pub record Demand2 : Type 0 where
   pub accepted : (bytes : List ℕ) → ((checked_as bytes).number ≡ 0) ↔ FactsHold bytes
   pub check-count : (bytes : List ℕ) (P : Package) → AcceptedAs bytes P → (os : List Pair) × OverlapsOf P os × ((checked_as bytes).overlaps ≡ length os)
   pub list : (bytes out : List ℕ) → (listed_as bytes (length out)).number ≡ 0
       → (P : Package) × (read_package bytes ≡ read P) × ListsOverlaps P (listed_as bytes (length out)) out (listed_into bytes out)
-  -- refusal 3, as document 02 has it (P9): where the bytes are not too many, line 1 is its names, and line 2 has four numbers, or with a second house (P11)
-  -- five, of which the first is neither 256 nor a prime up to 65,521, every service gives 3 with place 2; and none gives 3 elsewhere
+  -- refusal 3, as document 02 has it (P9): where the bytes are not too many, line 1 is its names, and line 2 has four numbers of which the first is neither
+  -- 256 nor a prime up to 65,521, every service gives 3 with place 2; and none gives 3 elsewhere
   pub no_field : (bytes : List ℕ) → NoField bytes → EachRefuses bytes 3 2
   pub check-field : (bytes : List ℕ) → (checked_as bytes).number ≡ 3 → NoField bytes
   pub list-field : (bytes : List ℕ) (room : ℕ) → (listed_as bytes room).number ≡ 3 → NoField bytes
@@ -211,10 +204,6 @@ pub record Demand2 : Type 0 where
   pub list-zero : (bytes : List ℕ) (room : ℕ) → (listed_as bytes room).number ≡ 8 → SomeZero bytes
   pub short-zero : (bytes text : List ℕ) (budget room : ℕ) → (shortened_as bytes text budget room).number ≡ 8 → SomeZero bytes
   pub member-zero : (bytes text : List ℕ) (budget : ℕ) → (membership_as bytes text budget).number ≡ 8 → SomeZero bytes
-  -- refusals 28 and 29 (P11): they are given only under a package that has a second house; listing gives neither
-  pub check_house : (bytes : List ℕ) → Between 28 29 (checked_as bytes).number → SecondHouse bytes
-  pub short_house : (bytes text : List ℕ) (budget room : ℕ) → Between 28 29 (shortened_as bytes text budget room).number → SecondHouse bytes
-  pub member_house : (bytes text : List ℕ) (budget : ℕ) → Between 28 29 (membership_as bytes text budget).number → SecondHouse bytes
   -- `reduction` is what both formula services judge before 19: the whole package as the check does, then 16 with the formula's line, then 17 and 18 as
   -- steps go
   pub package_first : (bytes text : List ℕ) (budget : ℕ) → (checked_as bytes).number ≢ 0
@@ -256,18 +245,6 @@ EqualModulo P f g = RelationSum P (sub (field_of P.head.p) f g)
 abbrev pub ShortFormOf : Package → Poly → Poly → Type 0
 ShortFormOf P f N = Short (Letter P.head.letters) (field_of P.head.p) word_order (family (relations P)) (family (basis P)) f N
 
--- f is a sum over the second house's relations (document 02, P11), as unbounded.
-abbrev pub OtherSum : Package → Poly → Type 0
-OtherSum P f = InIdeal (Letter P.head.letters) (field_of P.head.p) (family (other_relations P)) f
-
--- The difference of f and g is such a sum.
-abbrev pub OtherEqualModulo : Package → Poly → Poly → Type 0
-OtherEqualModulo P f g = OtherSum P (sub (field_of P.head.p) f g)
-
--- N is in written form, has no leading word of the basis inside, and differs from f by a sum over the second house's relations.
-abbrev pub OtherFormOf : Package → Poly → Poly → Type 0
-OtherFormOf P f N = Short (Letter P.head.letters) (field_of P.head.p) word_order (family (other_relations P)) (family (basis P)) f N
-
 -- A formula gets a short form when its call answers number 0.
 abbrev pub GetsShortForm : List ℕ → List ℕ → ℕ → List ℕ → Type 0
 GetsShortForm bytes text budget out = (shortened_as bytes text budget (length out)).number ≡ 0
@@ -298,8 +275,7 @@ pub record OneShortForm (P : Package) (f : Poly) (s : List ℕ) : Type 0 where
 -- both get a short form, the two are the same bytes exactly when the difference of the formulas is a finite sum of coefficient × word × relation × word,
 -- of any size; each short form has no leading word of the basis inside and differs from its formula by such a sum; and every other polynomial fails one of
 -- these two. So membership says yes exactly of such sums. This is said once for both kinds of coefficients, GF(p) and GF(256), and shown for any field:
--- the number p of a package that is accepted is a prime or 256, and what it means is a field. Where the package has a second house, a formula is a sum over
--- the one house's relations exactly when it is one over the other's, so that all of this holds of the second house's relations too.
+-- the number p of a package that is accepted is a prime or 256, and what it means is a field.
 pub record Demand3 : Type 0 where
   pub field : {bytes : List ℕ} {P : Package} → AcceptedAs bytes P → MeansField P.head.p × Field (field_of P.head.p)
   pub same_bytes : {bytes : List ℕ} {P : Package} → AcceptedAs bytes P
@@ -307,24 +283,16 @@ pub record Demand3 : Type 0 where
   pub short-form : {bytes : List ℕ} {P : Package} → AcceptedAs bytes P → {f : Poly} {s : List ℕ} → GetsBytes bytes P f s → OneShortForm P f s
   pub member : {bytes : List ℕ} {P : Package} → AcceptedAs bytes P → (text : List ℕ) (f : Poly) → ReadAs P text f
       → (budget : ℕ) → (membership_as bytes text budget).number ≡ 0 → ((membership_as bytes text budget).member ≡ 1) ↔ RelationSum P f
-  -- both houses (P11): what one may merge, the other may; whether two formulas get the same bytes, what a short form is, and what a member is, by the second
-  -- house's relations
-  pub houses : {bytes : List ℕ} {P : Package} → AcceptedAs bytes P → 0 < P.head.others → (f : Poly) → RelationSum P f ↔ OtherSum P f
-  pub other_same-bytes : {bytes : List ℕ} {P : Package} → AcceptedAs bytes P → 0 < P.head.others
-      → {f g : Poly} {s t : List ℕ} → GetsBytes bytes P f s → GetsBytes bytes P g t → (s ≡ t) ↔ OtherEqualModulo P f g
-  pub other_short-form : {bytes : List ℕ} {P : Package} → AcceptedAs bytes P → 0 < P.head.others → (f N : Poly) → ShortFormOf P f N ↔ OtherFormOf P f N
-  pub other_member : {bytes : List ℕ} {P : Package} → AcceptedAs bytes P → 0 < P.head.others → (text : List ℕ) (f : Poly) → ReadAs P text f
-      → (budget : ℕ) → (membership_as bytes text budget).number ≡ 0 → ((membership_as bytes text budget).member ≡ 1) ↔ OtherSum P f
 
 -- ==== Where the requests of document 02 add to this page
 --
 -- Demand 1 gets a field for each new service, with the numbers it can give: completing a package (P1: 20, 21), running blocks (P5: 22, 23), counting and
 -- listing short words (P7: 24), adding a trail back (P8: 25), carrying short forms (P13: 30 to 32), single coefficients (P14). P8's trail is a second slice
--- that a refusal leaves unchanged. The ranges above grow where the reader or the steps gain a number (P10: 26, 27).
+-- that a refusal leaves unchanged. The ranges above grow where the check, the reader or the steps gain a number (P10: 26, 27; P11: 28, 29).
 --
 -- Demand 2 gets what each new answer is by its definition: a completed package is accepted (P1); words are counted and listed (P7); a trail gives its
 -- formula back (P8); every single change that makes a member is listed, once, and nothing else (P14).
 --
 -- Demand 3 keeps its fields under weights (P10), as it did under any leading coefficient (P4) and untrimmed bases (P2), where `field_of`, `word_order` and
--- `Short` are given by the package. It gains that a formula and its short form act alike on blocks (P5), that every sequence of steps ends in the service's
--- short form (P12), and that a carried short form is the new one of the original formula (P13).
+-- `Short` are given by the package. It gains that a formula and its short form act alike on blocks (P5), that the two houses' sums are the same (P11), that
+-- every sequence of steps ends in the service's short form (P12), and that a carried short form is the new one of the original formula (P13).

@@ -1,6 +1,6 @@
 -- Document 01's examples as rows of tables: what the services answer on these bytes, and which of two words is greater; rows over GF(256), and rows with
 -- leading coefficients other than 1. That every row holds is proved in proofs/Examples.antt: `examples_hold`, `edges_hold`, `byte_rows_hold` and
--- `scaled-rows_hold`. Rows of bases that are not trimmed stand in UntrimmedExamples.antt, and those of two houses in TwoHouseExamples.antt.
+-- `scaled-rows_hold`. Rows of bases that are not trimmed stand in UntrimmedExamples.antt.
 use Rattle.std.specs.Prelude.{◌≡◌, List, [], ◌∷◌, ℕ, ◌≤◌, ◌<◌, length}
 use Prim.Native.String.{String}
 use Rattle.words.specs.declared.Comparison.TheVariants.{Above}
@@ -24,8 +24,6 @@ pub data Row : Type 0 where
   list_row : List ℕ → ℕ → String → Row
   -- the package is accepted and has so many overlaps and inclusions
   accepted_row : List ℕ → ℕ → Row
-  -- the check refuses the package with number and place
-  turned_row : List ℕ → ℕ → ℕ → Row
   -- under the package the formula is a member, after so many steps
   member_row : List ℕ → String → ℕ → Row
   -- under the package the formula, with a budget and an output slice of so many bytes, is refused with number and place
@@ -68,10 +66,6 @@ pub record Lists (bytes : List ℕ) (count : ℕ) (list : List ℕ) : Type 0 whe
 pub record IsAccepted (bytes : List ℕ) (count : ℕ) : Type 0 where
   pub answered : checked_as bytes ≡ record { number = 0; place = 0; overlaps = count }
 
--- The check refuses with number n and place k.
-pub record IsTurned (bytes : List ℕ) (n k : ℕ) : Type 0 where
-  pub answered : checked_as bytes ≡ record { number = n; place = k; overlaps = 0 }
-
 -- Membership answers success, m steps and yes with a budget of m or more, and 18 at the budget with a lesser one.
 pub record IsMember (bytes formula : List ℕ) (m : ℕ) : Type 0 where
   pub enough : (budget : ℕ) → m ≤ budget → membership_as bytes formula budget ≡ record { number = 0; place = 0; steps = m; member = 1 }
@@ -100,7 +94,6 @@ Claim (short_row bytes f N m) = Shortens bytes (ascii f) (ascii N) m
 Claim (above_row u v) = IsAbove (ascii u) (ascii v)
 Claim (list_row bytes count list) = Lists bytes count (ascii list)
 Claim (accepted_row bytes count) = IsAccepted bytes count
-Claim (turned_row bytes n k) = IsTurned bytes n k
 Claim (member_row bytes f m) = IsMember bytes (ascii f) m
 Claim (refused_row bytes f budget room n k) = Refuses bytes (ascii f) budget room n k
 Claim (kept_row bytes) = Keeps bytes

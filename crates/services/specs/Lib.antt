@@ -2,4 +2,3 @@ pub mod Services
 pub mod Demands
 pub mod Examples
 pub mod UntrimmedExamples
-pub mod TwoHouseExamples

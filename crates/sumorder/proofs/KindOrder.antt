@@ -7,31 +7,36 @@ use Prim.Native.Nat.{ℕ, suc, ◌+◌, ◌≤◌, ◌<◌}
 use native.Mathlib.Decide.{ℕ_discrete}
 use native.Mathlib.Omega.{arith}
 use lib.Dec.{eqb, leb}
-use borrow.Author.Tests.{leb-true, ne_eqb}
+use borrow.Author.Tests.{leb-true}
 use Rattle.text.specs.Bytes.{within}
 use Rattle.text.proofs.Bytewise.{within-bounds}
 use Rattle.package.specs.declared.Head.{Head}
-use Rattle.package.specs.Names.{sum_b, sum_o}
+use Rattle.package.specs.Names.{sum_b, sum_g}
 use Rattle.package.specs.Bounds.{coef_fits, word_fits_of}
 use Rattle.package.specs.Package.{package_limits}
-use Rattle.package.specs.Sums.{SumLine, sum_items, sum_item_fits, ofs, sum_fits}
+use Rattle.package.specs.Sums.{SumLine, sum_item_fits, ofs, sum_fits}
 use Rattle.package.specs.Readable.{SumInOrder, SumsInOrder, no_sums, sum_then}
 use Rattle.sumlines.specs.Lines.{sums_at, Counted, uncounted, counted}
 use Rattle.sumorder.specs.Reached.{Reached}
 use Rattle.sumorder.proofs.LineOrder.{follows-order, relabelled}
 
--- Items of a line that fits: none is 0, and of a kind other than O none is above the last.
+-- Items of a line that fits.
 item-some : (h : Head) (k i : ℕ) → sum_item_fits h k i ≡ true → 1 ≤ i
 unfolding sum_item_fits
-item-some h k i = go (eqb k sum_o)
+item-some h k i = go (eqb k sum_b) (eqb k sum_g)
   where
-    go : (t : Bool) → ◌≡◌ {A = Bool} (elim t [ true ↦ leb 1 i | false ↦ within 1 (sum_items h k) i ]) true → 1 ≤ i
-    go true e = leb-true 1 i e
-    go false e = (within-bounds 1 (sum_items h k) i e).0
+    go : (t u : Bool) → ◌≡◌ {A = Bool} (elim t [ true ↦ within 1 h.basis i | false ↦ elim u [ true ↦ within 1 h.gens i | false ↦ leb 1 i ] ]) true → 1 ≤ i
+    go true u e = (within-bounds 1 h.basis i e).0
+    go false true e = (within-bounds 1 h.gens i e).0
+    go false false e = leb-true 1 i e
 
-item-last : (h : Head) (k i : ℕ) → k ≢ sum_o → sum_item_fits h k i ≡ true → i ≤ sum_items h k
+item-basis : (h : Head) (i : ℕ) → sum_item_fits h sum_b i ≡ true → i ≤ h.basis
 unfolding sum_item_fits
-item-last h k i d e = (within-bounds 1 (sum_items h k) i (rw (sum_item_fits, ne_eqb k sum_o d) at e)).1
+item-basis h i e = (within-bounds 1 h.basis i e).1
+
+item_relation : (h : Head) (i : ℕ) → sum_item_fits h sum_g i ≡ true → i ≤ h.gens
+unfolding sum_item_fits
+item_relation h i e = (within-bounds 1 h.gens i e).1
 
 item-fits : (h : Head) (k i c : ℕ) (l : List ℕ) (o : ℕ) (r : List ℕ) → sum_fits h package_limits k i c l o r ≡ true → sum_item_fits h k i ≡ true
 unfolding sum_fits
@@ -51,16 +56,22 @@ module _ (h : Head) where
   fits-item : {k i n : ℕ} {s : SumLine} → SumInOrder h package_limits k i n s → sum_item_fits h s.kind s.item ≡ true
   fits-item {k} {i} {n} {s} o = item-fits h s.kind s.item s.coef s.left s.of s.right o.fits
 
-  -- there is no kind 0, and no item behind the last of a kind other than O
+  -- there is no kind 0, and no item behind the last
   pub none_first : KindOver 0 0
-  none_first n s o e = let y = (within-bounds sum_b sum_o s.kind o.ranked).0 in omega arith
+  none_first n s o e = let y = (within-bounds 1 3 s.kind o.ranked).0 in omega arith
 
-  pub behind-last : (k : ℕ) → k ≢ sum_o → KindOver k (sum_items h k + 1)
-  behind-last k d n s o e = go (follows-order k (sum_items h k + 1) s.kind s.item o.order)
+  behind-last : (k most : ℕ) → ((i : ℕ) → sum_item_fits h k i ≡ true → i ≤ most) → KindOver k (most + 1)
+  behind-last k most b n s o e = go (follows-order k (most + 1) s.kind s.item o.order)
     where
-      go : (k < s.kind) ⊎ ((k ≡ s.kind) × (sum_items h k + 1 ≤ s.item)) → ⊥
+      go : (k < s.kind) ⊎ ((k ≡ s.kind) × (most + 1 ≤ s.item)) → ⊥
       go (inl l) = omega arith
-      go (inr (q, l)) = let z = item-last h k s.item d (rw (sym e) at (fits-item o)) in omega arith
+      go (inr (d, l)) = let z = b s.item (rw (sym e) at (fits-item o)) in omega arith
+
+  pub basis-over : KindOver sum_b (h.basis + 1)
+  basis-over = behind-last sum_b h.basis (item-basis h)
+
+  pub relations-over : KindOver sum_g (h.gens + 1)
+  relations-over = behind-last sum_g h.gens (item_relation h)
 
   order-over : (k i : ℕ) → KindOver k i → {n : ℕ} (ss : List SumLine) → SumsInOrder h package_limits k i n ss → SumsInOrder h package_limits (suc k) 1 n ss
   order-over k i over [] no_sums = no_sums

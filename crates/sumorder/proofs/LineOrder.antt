@@ -89,7 +89,6 @@ module _ {h : Head} {m : Limits} where
   relabelled {k} {i} {k'} {i'} {n} {s} o q = record {
     numbered = o.numbered;
     ranked = o.ranked;
-    housed = o.housed;
     digits = o.digits;
     fits = o.fits;
     order = order-follows k' i' s.kind s.item q;

@@ -35,15 +35,15 @@ then-fine u v e = rw e
 
 module _ (K : Operations) (O : Order) where
   -- The sums of a package are the row from its first kind on.
-  pub sums_are : (rs hs ps : List Poly) (ss : List SumLine) → sums_verdict K O rs hs ps ss ≡ row_verdict K O (sides rs hs ps) ps ss
+  pub sums_are : (rs ps : List Poly) (ss : List SumLine) → sums_verdict K O rs ps ss ≡ row_verdict K O (sides rs ps) ps ss
   unfolding sums_verdict row_verdict
-  sums_are rs hs ps ss = refl
+  sums_are rs ps ss = refl
 
   -- The first kind, then the row behind it.
   pub row_first : (s : Side) (kinds : List Side) (ps : List Poly) (ss : List SumLine)
-      → row_verdict K O (s ∷ kinds) ps ss ≡ then_judge (sums_judged s.number s.kind K O (family s.sources) ss s.targets 1) (row_verdict K O kinds ps ss)
+      → row_verdict K O (s ∷ kinds) ps ss ≡ then_judge (sums_judged s.number s.kind K O (family s.others) ss s.targets 1) (row_verdict K O kinds ps ss)
   unfolding row_verdict kinds_judged
-  row_first s kinds ps ss = then_assoc (sums_judged s.number s.kind K O (family s.sources) ss s.targets 1) (kinds_judged K O ss kinds) _
+  row_first s kinds ps ss = then_assoc (sums_judged s.number s.kind K O (family s.others) ss s.targets 1) (kinds_judged K O ss kinds) _
 
   -- No kind left: 15, then the overlaps and inclusions.
   pub row-none : (ps : List Poly) (ss : List SumLine)
@@ -71,7 +71,7 @@ module _ (K : Operations) (O : Order) where
     pub past_kinds : (kinds : List Side) → All (λ s. k ≢ s.kind) kinds → {ss rest : List SumLine} → Past k ss rest → kinds_judged K O ss kinds ≡ kinds_judged K O rest kinds
     unfolding kinds_judged
     past_kinds [] done p = refl
-    past_kinds (s ∷ kinds) (d also ds) p = rw (past-sums s.number s.kind (family s.sources) s.targets d p, past_kinds kinds ds p)
+    past_kinds (s ∷ kinds) (d also ds) p = rw (past-sums s.number s.kind (family s.others) s.targets d p, past_kinds kinds ds p)
 
     -- The lines of kind k may be left out of a row that judges none of kind k.
     pub row-past : (kinds : List Side) (ps : List Poly) → k ≢ sum_o → All (λ s. k ≢ s.kind) kinds → {ss rest : List SumLine} → Past k ss rest

@@ -12,7 +12,7 @@ use Rattle.package.proofs.SumLines.{sum-kind, sum-item, sum-coef, sum_left, sum_
 use Rattle.package.proofs.SumTexts.{known_kind, kind-clear}
 use Rattle.package.specs.Held.{seen_line_word, GotSum, some_sum, got_sum_of, next_sum, seen_sum}
 use Rattle.package.specs.declared.SumRead.{SumRead}
-use Rattle.package.specs.Names.{sum_kinds, sum_b, sum_o}
+use Rattle.package.specs.Names.{sum_kinds}
 use Rattle.package.specs.Sums.{no_sum, sum, sum_form}
 use Rattle.text.proofs.Bytewise.{within-bounds}
 use Rattle.text.proofs.FieldTexts.{number-starts, starts-number, number-clear, word-starts, starts-word, word-clear, kind-starts, starts-kind}
@@ -100,7 +100,7 @@ kind-line : (t u : List ℕ) (k : ℕ) → num_then (rank sum_kinds) (fields t) 
     → (num_then (rank sum_kinds) (fields (first (lines t))) ≡ some k (fields (first (lines u)))) × (behind (lines t) ≡ behind (lines u))
 kind-line t u k a =
     let s = kind-starts sum_kinds (fields t) k (fields u) a in
-    let b = within-bounds sum_b sum_o k s.1 in
+    let b = within-bounds 1 3 k s.1 in
     let r = field-first t u (write_kind sum_kinds k) (kind-clear 10 k (lit< tt) b) (kind-clear 32 k (lit< tt) b) s.0 in
     (ap (num_then (rank sum_kinds)) r.0 ∙ starts-kind sum_kinds k (fields (first (lines u))) (known_kind k b), r.1)
 

@@ -6,10 +6,10 @@ use Prim.Native.Nat.{ℕ, suc, ◌≤◌, ◌<◌}
 use native.Mathlib.Omega.{arith}
 use lib.ListN.{length, drop, drop_of_length-le}
 use lib.Seq.{drop-cons}
-use Rattle.package.proofs.SumLines.{judge3_2, judge3_kind, judge3_5, judge3_6, judge3_0}
+use Rattle.package.proofs.SumLines.{judge3_2, judge3_5, judge3_6, judge3_0}
 use Rattle.package.specs.Answer.{Answer, refused}
 use Rattle.package.specs.Held.{none_sum, some_sum, got_sum_of, next_sum}
-use Rattle.package.specs.Sums.{SumForm, no_sum, sum, sum_form, sum_kind_fits, sum_fits, sum_follows, SumVerdict, refused_by, accept, judge_sum, sums_read, at_end, block3}
+use Rattle.package.specs.Sums.{SumForm, no_sum, sum, sum_form, sum_fits, sum_follows, SumVerdict, refused_by, accept, judge_sum, sums_read, at_end, block3}
 use Rattle.package.specs.declared.Head.{Head}
 use Rattle.package.specs.declared.Limits.{Limits}
 use Rattle.text.proofs.PieceTexts.{joined-pieces}
@@ -64,20 +64,15 @@ module _ (h : Head) (lim : Limits) (k' i' n : ℕ) where
             ap (λ z. onward z v) (sym w) ∙ rw (block3, ← j x (e ∙ p))
 
     module _ (s : List ℕ) (at : ℕ) (q : next_sum (lines (drop at s)) ≡ some_sum k i c l o r ls) where
-      pub sums-kind : sum_kind_fits h k ≡ false → refused 2 n ≡ block3 h lim k' i' n (lines (drop at s))
+      pub sums_5 : sum_fits h lim k i c l o r ≡ false → refused 5 n ≡ block3 h lim k' i' n (lines (drop at s))
       unfolding onward
-      sums-kind d = some-line (refused_by 2) (λ x e. judge3_kind h lim k' i' x k i c l o r e d) (lines (drop at s)) q
+      sums_5 f = some-line (refused_by 5) (λ x e. judge3_5 h lim k' i' x k i c l o r e f) (lines (drop at s)) q
 
-      module _ (d : sum_kind_fits h k ≡ true) where
-        pub sums_5 : sum_fits h lim k i c l o r ≡ false → refused 5 n ≡ block3 h lim k' i' n (lines (drop at s))
+      module _ (f : sum_fits h lim k i c l o r ≡ true) where
+        pub sums_6 : sum_follows k' i' k i ≡ false → refused 6 n ≡ block3 h lim k' i' n (lines (drop at s))
         unfolding onward
-        sums_5 f = some-line (refused_by 5) (λ x e. judge3_5 h lim k' i' x k i c l o r e d f) (lines (drop at s)) q
+        sums_6 g = some-line (refused_by 6) (λ x e. judge3_6 h lim k' i' x k i c l o r e f g) (lines (drop at s)) q
 
-        module _ (f : sum_fits h lim k i c l o r ≡ true) where
-          pub sums_6 : sum_follows k' i' k i ≡ false → refused 6 n ≡ block3 h lim k' i' n (lines (drop at s))
-          unfolding onward
-          sums_6 g = some-line (refused_by 6) (λ x e. judge3_6 h lim k' i' x k i c l o r e d f g) (lines (drop at s)) q
-
-          pub sums_on : sum_follows k' i' k i ≡ true → block3 h lim k i (suc n) ls ≡ block3 h lim k' i' n (lines (drop at s))
-          unfolding onward
-          sums_on g = some-line (accept k i) (λ x e. judge3_0 h lim k' i' x k i c l o r e d f g) (lines (drop at s)) q
+        pub sums_on : sum_follows k' i' k i ≡ true → block3 h lim k i (suc n) ls ≡ block3 h lim k' i' n (lines (drop at s))
+        unfolding onward
+        sums_on g = some-line (accept k i) (λ x e. judge3_0 h lim k' i' x k i c l o r e f g) (lines (drop at s)) q

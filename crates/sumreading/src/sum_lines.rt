@@ -2,16 +2,14 @@
 
 ghost use Rattle.std.specs.Prelude.{◌≡◌, ℕ, ◌+◌, ◌≤◌, ◌<◌, length, drop};
 ghost use Rattle.text.specs.Pieces.{lines};
-ghost use Rattle.package.specs.Sums.{sum_kind_fits, sum_items, sum_item_fits, ofs, sum_fits, sum_follows, block3};
+ghost use Rattle.package.specs.Sums.{sum_item_fits, ofs, sum_fits, sum_follows, block3};
 ghost use Rattle.package.specs.Held.{next_sum, seen_sum, SumInside, seen_sum_judged, JudgedInside, seen_sums};
 
 use crate::line_end::line_word;
 use kindreading::kind::inner_rank;
 use linetests::bounds::{coef_fits, word_fits};
 use numberreading::number::inner_number;
-use package::{
-    Head, Limits, Refusal, SUM_B, SUM_C, SUM_G, SUM_H, SUM_O, SumJudged, SumRead, SumsEnded,
-};
+use package::{Head, Limits, Refusal, SUM_B, SUM_G, SumJudged, SumRead, SumsEnded};
 use text::bytes::is_within;
 use text::{NumAt, WordAt};
 use wordreading::word::inner_word;
@@ -26,7 +24,7 @@ pub fn read_sum(s: &[u8], at: usize) -> SumRead
     let NumAt::Read {
         value: kind,
         next: a,
-    } = inner_rank(b"BCGHO", s, at)
+    } = inner_rank(b"BGO", s, at)
     else {
         return SumRead::Misshapen;
     };
@@ -74,46 +72,17 @@ pub fn read_sum(s: &[u8], at: usize) -> SumRead
     }
 }
 
-// Whether a kind stands in this package: C and H only with a second house.
-fn sum_kind_fits(h: Head, kind: u32) -> bool
-    ensures { result ≡ sum_kind_fits h kind }
-{
-    if kind == SUM_C {
-        return 0 < h.others;
-    }
-    if kind == SUM_H {
-        return 0 < h.others;
-    }
-    true
-}
-
-// How many items a kind other than O has.
-fn sum_items(h: Head, kind: u32) -> u32
-    ensures { result ≡ sum_items h kind }
-{
-    if kind == SUM_B {
-        return h.basis;
-    }
-    if kind == SUM_C {
-        if 0 < h.others {
-            return h.basis;
-        }
-        return 0;
-    }
-    if kind == SUM_G {
-        return h.gens;
-    }
-    h.others
-}
-
 // Whether the item of a sum line is in bounds.
 fn sum_item_fits(h: Head, kind: u32, item: u32) -> bool
     ensures { result ≡ sum_item_fits h kind item }
 {
-    if kind == SUM_O {
-        return 1 <= item;
+    if kind == SUM_B {
+        return is_within(1, h.basis, item);
     }
-    is_within(1, sum_items(h, kind), item)
+    if kind == SUM_G {
+        return is_within(1, h.gens, item);
+    }
+    1 <= item
 }
 
 // How many polynomials `of` may name.
@@ -122,9 +91,6 @@ fn ofs_of(h: Head, kind: u32) -> u32
 {
     if kind == SUM_B {
         return h.gens;
-    }
-    if kind == SUM_C {
-        return h.others;
     }
     h.basis
 }
@@ -196,9 +162,6 @@ pub fn judge_sum(
     else {
         return SumJudged::Refused(2);
     };
-    if !sum_kind_fits(h, kind) {
-        return SumJudged::Refused(2);
-    }
     let a = left + left_len;
     let b = right + right_len;
     if !sum_fits(h, m, kind, item, coef, &s[left..a], of, &s[right..b]) {

@@ -8,10 +8,10 @@ use Rattle.words.specs.Order.{Lt}
 use Rattle.algebra.specs.Written.{Written}
 use Rattle.working.proofs.Falling.{written_falls}
 use Rattle.working.proofs.Families.{family-written}
-use Rattle.table.specs.Table.{gens_in, base_in, items_in, field_in, order_in, first_in}
-use Rattle.table.specs.Polynomials.{word_in, term_in, polynomial_in, relations_in, other_relations_in, basis_in}
+use Rattle.table.specs.Table.{gens_in, items_in, field_in, order_in, first_in}
+use Rattle.table.specs.Polynomials.{word_in, term_in, polynomial_in, relations_in, basis_in}
 use Rattle.table.specs.Tabled.{Tabled}
-use Rattle.table.proofs.Families.{family-relations, family-others, family-basis}
+use Rattle.table.proofs.Families.{family-relations, family-basis}
 
 module _ (t : List ℕ) (T : Tabled t) where
   item-written : (j : ℕ) → 1 ≤ j → j ≤ items_in t → Written (field_in t) (order_in t) (polynomial_in t j)
@@ -20,17 +20,10 @@ module _ (t : List ℕ) (T : Tabled t) where
     where
       go : Dec (k < gens_in t) → Written (field_in t) (order_in t) (polynomial_in t (suc k))
       go (yes q) = rw (family-relations t k q) at (family-written (field_in t) (order_in t) (relations_in t) T.relations-written (suc k))
-      go (no q) = behind (dec_lt k (base_in t))
-        where
-          behind : Dec (k < base_in t) → Written (field_in t) (order_in t) (polynomial_in t (suc k))
-          behind (yes r) =
-              let i = k - gens_in t in
-              let e : gens_in t + suc i ≡ suc k = omega arith in
-              rw (family-others t i (omega arith), e) at (family-written (field_in t) (order_in t) (other_relations_in t) T.others-written (suc i))
-          behind (no r) =
-              let i = k - base_in t in
-              let e : base_in t + suc i ≡ suc k = omega arith in
-              rw (family-basis t i (omega arith), e) at (family-written (field_in t) (order_in t) (basis_in t) T.basis-written (suc i))
+      go (no q) =
+          let i = k - gens_in t in
+          let e : gens_in t + suc i ≡ suc k = omega arith in
+          rw (family-basis t i (omega arith), e) at (family-written (field_in t) (order_in t) (basis_in t) T.basis-written (suc i))
 
   pub item_falls : (j : ℕ) → 1 ≤ j → j ≤ items_in t → (a b : ℕ) → first_in t j ≤ a → a < b → b < first_in t (suc j)
       → Lt (order_in t) (word_in t b) (word_in t a)

@@ -11,7 +11,7 @@ use Rattle.algebra.specs.Poly.{Term, Poly}
 use Rattle.algebra.specs.Ideal.{family}
 use Rattle.algebra.specs.Groebner.{lead, lead_coef}
 use Rattle.working.specs.Working.{terms}
-use Rattle.table.specs.Table.{base_in, basis_count_in, items_in, terms_in, first_in, size_in, blocks_in}
+use Rattle.table.specs.Table.{gens_in, basis_count_in, items_in, terms_in, first_in, size_in, blocks_in}
 use Rattle.table.specs.Polynomials.{word_in, term_in, polynomial_in, basis_in}
 use Rattle.table.specs.Tabled.{Tabled}
 use Rattle.table.proofs.WordSizes.{word_size}
@@ -26,13 +26,13 @@ number_in t (suc g) h = (omega arith, go (dec_lt (basis_count_in t) (suc g)))
     go : Dec (basis_count_in t < suc g) → suc g ≤ basis_count_in t
     go (no q) = omega arith
     go (yes q) =
-        let n = polynomials-count t (base_in t + 1) (basis_count_in t) in
+        let n = polynomials-count t (gens_in t + 1) (basis_count_in t) in
         let k : length (basis_in t) ≤ g = omega arith in
         absurd (h (get_or-eq_default (basis_in t) [] k))
 
 pub basis-some : (t : List ℕ) → Tabled t → (g : ℕ) → g < basis_count_in t → family (basis_in t) (suc g) ≢ []
 unfolding family
-basis-some t T g h = all_at T.nonzero [] g (rw (polynomials-count t (base_in t + 1) (basis_count_in t)) h)
+basis-some t T g h = all_at T.nonzero [] g (rw (polynomials-count t (gens_in t + 1) (basis_count_in t)) h)
 
 -- terms that are not zero lead with the first
 pub terms-first : (F : ℕ → Term) (i n : ℕ) → terms F i n ≢ [] → (0 < n) × (lead (terms F i n) ≡ (F i).word) × (lead_coef (terms F i n) ≡ (F i).coef)
@@ -44,16 +44,16 @@ terms-first F i (suc n) h = (omega arith, refl, refl)
 pub record LeadTerm (t : List ℕ) (g : ℕ) : Type 0 where
   pub some : 1 ≤ g
   pub most : g ≤ basis_count_in t
-  pub item : base_in t + g ≤ items_in t
-  pub polynomial : family (basis_in t) g ≡ polynomial_in t (base_in t + g)
-  pub inside : first_in t (base_in t + g) < terms_in t
-  pub word : word_in t (first_in t (base_in t + g)) ≡ lead (family (basis_in t) g)
-  pub letters : length (lead (family (basis_in t) g)) ≡ size_in t (first_in t (base_in t + g)) % 256
+  pub item : gens_in t + g ≤ items_in t
+  pub polynomial : family (basis_in t) g ≡ polynomial_in t (gens_in t + g)
+  pub inside : first_in t (gens_in t + g) < terms_in t
+  pub word : word_in t (first_in t (gens_in t + g)) ≡ lead (family (basis_in t) g)
+  pub letters : length (lead (family (basis_in t) g)) ≡ size_in t (first_in t (gens_in t + g)) % 256
 
 pub lead-term : (t : List ℕ) → Tabled t → (g : ℕ) → 1 ≤ g → g ≤ basis_count_in t → LeadTerm t g
 lead-term t T zero some most = absurd (omega arith)
 lead-term t T (suc k) some most =
-    let j = base_in t + suc k in
+    let j = gens_in t + suc k in
     let e = family-basis t k (omega arith) in
     let f = terms-first (term_in t) (first_in t j) (first_in t (suc j) - first_in t j) (λ z. basis-some t T k (omega arith) (e ∙ z)) in
     let lo = f.0 in

@@ -1,10 +1,10 @@
--- The polynomials of a table: relations, those of a second house, and basis.
+-- The polynomials of a table: relations and basis.
 use Rattle.std.specs.Prelude.{◌≢◌, List, [], ◌∷◌, ℕ, zero, suc, ◌+◌, ◌-◌}
 use Rattle.lists.specs.All.{All}
 use Rattle.words.specs.Word.{Word}
 use Rattle.algebra.specs.Poly.{Term, Poly}
 use Rattle.working.specs.Working.{terms}
-use Rattle.table.specs.Table.{gens_in, others_in, base_in, basis_count_in, first_in, coef_in, size_in, blocks_in}
+use Rattle.table.specs.Table.{gens_in, basis_count_in, first_in, coef_in, size_in, blocks_in}
 use Rattle.table.specs.Words.{word_of}
 
 -- The word of term i, and the term.
@@ -24,15 +24,12 @@ unfolding terms
 polynomials_in t j zero = []
 polynomials_in t j (suc n) = polynomial_in t j ∷ polynomials_in t (suc j) n
 
--- The relations, those of the second house behind them, and the basis behind these.
+-- The relations, and the basis behind them.
 abbrev pub relations_in : List ℕ → List Poly
 relations_in t = polynomials_in t 1 (gens_in t)
 
-abbrev pub other_relations_in : List ℕ → List Poly
-other_relations_in t = polynomials_in t (gens_in t + 1) (others_in t)
-
 abbrev pub basis_in : List ℕ → List Poly
-basis_in t = polynomials_in t (base_in t + 1) (basis_count_in t)
+basis_in t = polynomials_in t (gens_in t + 1) (basis_count_in t)
 
 -- None of the polynomials is zero.
 abbrev pub NoneZero : List Poly → Type 0

@@ -1,10 +1,10 @@
 -- A package that was read is one table of 3,424 numbers. Its sections, by the entry that each starts with:
---     0  the head: p, the letters in use, the relations, the relations of a second house (0: there is none), the basis polynomials, the terms
+--     0  the head: p, the letters in use, the relations, the relations of a second house (none as yet), the basis polynomials, the terms
 --    16  for each letter its key, code + 32 × weight, at the entry 16 + letter % 32
 --    48  for each code its letter + 256 × weight
 --    80  for each basis polynomial the inverse of its leading coefficient
 --   144  for each basis polynomial the letters of its longest word (0: not filled as yet)
---   208  for each item where its terms start: relations from item 1 on, those of the second house behind them, and the basis behind these
+--   208  for each item where its terms start: relations from item 1 on, and the basis behind them
 --   352  for each term three numbers: coefficient × 2^32 + size, and the two blocks of its word
 -- A size is 256 × weight + number of letters. Contracts cite the names below and in the files beside this one; only the
 -- crate that fills the table knows the entries besides.
@@ -26,22 +26,15 @@ letters_in t = get_or t 1 0
 abbrev pub gens_in : List ℕ → ℕ
 gens_in t = get_or t 2 0
 
-abbrev pub others_in : List ℕ → ℕ
-others_in t = get_or t 3 0
-
 abbrev pub basis_count_in : List ℕ → ℕ
 basis_count_in t = get_or t 4 0
 
 abbrev pub terms_in : List ℕ → ℕ
 terms_in t = get_or t 5 0
 
--- How many items stand before the basis: the relations of both houses.
-abbrev pub base_in : List ℕ → ℕ
-base_in t = gens_in t + others_in t
-
--- How many items there are: the relations of both houses, and the basis polynomials.
+-- How many items there are: relations and basis polynomials.
 abbrev pub items_in : List ℕ → ℕ
-items_in t = base_in t + basis_count_in t
+items_in t = gens_in t + basis_count_in t
 
 -- The field of the coefficients, and the order of the words.
 abbrev pub field_in : List ℕ → Operations

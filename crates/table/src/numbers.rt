@@ -2,7 +2,7 @@
 
 ghost use Rattle.std.specs.Prelude.{◌≡◌, List, ℕ, ◌+◌, ◌/◌, ◌≤◌, ◌<◌, take, drop};
 ghost use Rattle.packedwords.specs.Packed.{letter_of};
-ghost use Rattle.table.specs.Table.{table_size, prime_in, letters_in, gens_in, others_in, base_in, basis_count_in, key_in, letter_in, inverse_in, first_in, coef_in, size_in, blocks_in};
+ghost use Rattle.table.specs.Table.{table_size, prime_in, letters_in, gens_in, basis_count_in, key_in, letter_in, inverse_in, first_in, coef_in, size_in, blocks_in};
 ghost use Rattle.table.specs.Tabled.{Tabled};
 
 use crate::Table;
@@ -28,21 +28,6 @@ pub fn gens_in(t: &Table) -> usize
     ensures { result ≡ gens_in t.now }
 {
     t[2] as usize
-}
-
-// How many relations the second house has.
-pub fn others_in(t: &Table) -> usize
-    ensures { result ≡ others_in t.now }
-{
-    t[3] as usize
-}
-
-// How many items stand before the basis.
-pub fn base_in(t: &Table) -> usize
-    requires { Tabled t.now }
-    ensures { result ≡ base_in t.now }
-{
-    t[2] as usize + t[3] as usize
 }
 
 // How many basis polynomials there are.

@@ -11,7 +11,6 @@ use Rattle.package.specs.declared.Head.{Head}
 use Rattle.package.specs.declared.Limits.{Limits}
 use Rattle.package.specs.declared.Reading.TheVariants.{Whole}
 use Rattle.package.specs.Held.{held_term, held_terms, seen_all, WordsInside, StartsMarked}
-use Rattle.package.specs.Items.{before_basis}
 use Rattle.package.specs.Package.{Package, read_package, package_limits}
 use Rattle.package.specs.Readable.{Readable, TermsInOrder, no_terms, term_then}
 use Rattle.package.specs.Terms.{TermLine, LineAbove}
@@ -19,8 +18,8 @@ use Rattle.package.proofs.LineBounds.{HeadBounds}
 use Rattle.package.proofs.ReadingFacts.{kept_at, whole_package, whole-readable, whole-bounds}
 use Rattle.package.proofs.TermSlices.{kept-length}
 use Rattle.acceptance.proofs.LineFacts.{term-bounds}
-use Rattle.acceptance.proofs.ReadableContent.{readable-field, relations-written, others-written, basis-written}
-use Rattle.acceptance.proofs.SlicesContent.{slices_terms, relations-run, others-run, basis-run, relations-held, others-held, basis-held}
+use Rattle.acceptance.proofs.ReadableContent.{readable-field, relations-written, basis-written}
+use Rattle.acceptance.proofs.SlicesContent.{slices_terms, relations-run, basis-run, relations-held, basis-held}
 use Rattle.tabulating.specs.Lies.{Lettered, Lies}
 use Rattle.tablelies.proofs.Letters.{letters_wider}
 
@@ -33,7 +32,7 @@ terms-letters h m (t ∷ ts) (term_then o os) =
 
 module _ (s ks is cs os ls fs : List ℕ) (h : Head) (m at n : ℕ) (e : seen_all s ks is cs os ls (Whole h m at n) ≡ read_package s)
     (marked : StartsMarked h ks is m fs) (few : m ≤ 1024) (inside : WordsInside s os ls m)
-    (lc : m ≤ length cs) (lo : m ≤ length os) (ll : m ≤ length ls) (lf : before_basis h + h.basis + 1 < length fs) where
+    (lc : m ≤ length cs) (lo : m ≤ length os) (ll : m ≤ length ls) (lf : h.gens + h.basis + 1 < length fs) where
   abbrev P : Package
   P = whole_package s ks is cs os ls h m at n
 
@@ -49,25 +48,24 @@ module _ (s ks is cs os ls fs : List ℕ) (h : Head) (m at n : ℕ) (e : seen_al
       let k = kept-length s ks is cs os ls m in
       let d = held_term s ks is cs os ls 0 in
       let b = all_at (terms-letters h package_limits (held_terms s ks is cs os ls m) readable.terms) d i (omega arith) in
-      letters_wider bounds.counts.letters (rw (kept_at s ks is cs os ls d m i l) at b)
+      letters_wider bounds.letters (rw (kept_at s ks is cs os ls d m i l) at b)
 
   -- From what the reader's contract says, all that `tabulate` asks.
   pub read_lies : Lies h cs os ls s fs m
   read_lies =
       let x = relations-held s ks is cs os ls fs h m at n e marked inside lc lo ll lf in
-      let y = others-held s ks is cs os ls fs h m at n e marked inside lc lo ll lf in
-      let z = basis-held s ks is cs os ls fs h m at n e marked inside lc lo ll lf in
+      let y = basis-held s ks is cs os ls fs h m at n e marked inside lc lo ll lf in
       record {
         prime = bounds.most;
         field = readable-field P readable;
-        counts = bounds.counts;
+        alphabet = bounds.letters;
+        gens = bounds.gens;
+        basis = bounds.basis;
         count = few;
         terms = slices_terms s ks is cs os ls fs h m at n e marked inside lc lo ll lf;
         letters = read_lettered;
         relation_runs = relations-run s ks is cs os ls fs h m at n e marked inside lc lo ll lf;
-        other_runs = others-run s ks is cs os ls fs h m at n e marked inside lc lo ll lf;
         basis-runs = basis-run s ks is cs os ls fs h m at n e marked inside lc lo ll lf;
         relations-written = rw x (relations-written P readable);
-        others-written = rw y (others-written P readable);
-        basis-written = rw z (basis-written P readable);
+        basis-written = rw y (basis-written P readable);
       }

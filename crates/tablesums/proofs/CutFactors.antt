@@ -16,7 +16,7 @@ use Rattle.overlapsearch.specs.Position.{pair_of}
 use Rattle.packedwords.specs.Packed.{unpacked, Packs}
 use Rattle.packedwords.proofs.Blocks.{packs_widen}
 use Rattle.table.specs.Polynomials.{basis_in}
-use Rattle.table.specs.Table.{base_in, letter_in, first_in, size_in, blocks_in}
+use Rattle.table.specs.Table.{gens_in, letter_in, first_in, size_in, blocks_in}
 use Rattle.table.specs.Tabled.{Tabled}
 use Rattle.table.proofs.LeadingTerms.{LeadTerm}
 use Rattle.table.proofs.WordSizes.{even-held}
@@ -32,7 +32,7 @@ two_entries t at h =
 
 module _ {t : List ℕ} (T : Tabled t) (g : ℕ) where
   -- The leading word of basis polynomial g, copied to six blocks.
-  pub lead-packed : (L : LeadTerm t g) (z : ℕ) (word : List ℕ) → z ≡ size_in t (first_in t (base_in t + g)) → word ≡ blocks_in t (first_in t (base_in t + g)) ++ replicate 4 0
+  pub lead-packed : (L : LeadTerm t g) (z : ℕ) (word : List ℕ) → z ≡ size_in t (first_in t (gens_in t + g)) → word ≡ blocks_in t (first_in t (gens_in t + g)) ++ replicate 4 0
       → LeadPacked t g (z % 256) word
   lead-packed L z word e w = rw (e, w) (record {
     letters = L.letters;
@@ -43,7 +43,7 @@ module _ {t : List ℕ} (T : Tabled t) (g : ℕ) where
   })
     where
       first : ℕ
-      first = first_in t (base_in t + g)
+      first = first_in t (gens_in t + g)
 
       widened : Packs (size_in t first % 256) (blocks_in t first ++ replicate 4 0)
           × (unpacked (size_in t first % 256) (blocks_in t first ++ replicate 4 0) ≡ unpacked (size_in t first % 256) (blocks_in t first))

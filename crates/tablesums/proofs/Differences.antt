@@ -12,7 +12,7 @@ use Rattle.overlaps.specs.Overlaps.{rest_of, front_of, back_of, difference}
 use Rattle.overlapsearch.specs.declared.PairAt.{PairAt}
 use Rattle.overlapsearch.specs.Position.{pair_of}
 use Rattle.table.specs.Polynomials.{polynomial_in, basis_in}
-use Rattle.table.specs.Table.{field_in, order_in, base_in, basis_count_in, inverse_in}
+use Rattle.table.specs.Table.{field_in, order_in, gens_in, basis_count_in, inverse_in}
 use Rattle.table.specs.Tabled.{Tabled}
 use Rattle.table.proofs.Families.{family-basis}
 use Rattle.table.proofs.Inverses.{inverse-some}
@@ -20,11 +20,11 @@ use Rattle.packedterms.specs.Formula.{formula, Holds, Working}
 use Rattle.tablesums.proofs.OverlapDifference.{difference-held}
 
 module _ (t : List ℕ) (T : Tabled t) where
-  by_number : (k : ℕ) → k < basis_count_in t → (item : ℕ) → item ≡ base_in t + suc k → polynomial_in t item ≡ family (basis_in t) (suc k)
+  by_number : (k : ℕ) → k < basis_count_in t → (item : ℕ) → item ≡ gens_in t + suc k → polynomial_in t item ≡ family (basis_in t) (suc k)
   by_number k h item e = ap (polynomial_in t) e ∙ sym (family-basis t k h)
 
   -- The first side is in written form, so that arrays which hold it can be added to.
-  pub first-working : (k : ℕ) → k < basis_count_in t → (item x : ℕ) → item ≡ base_in t + suc k → x ≡ inverse_in t k
+  pub first-working : (k : ℕ) → k < basis_count_in t → (item x : ℕ) → item ≡ gens_in t + suc k → x ≡ inverse_in t k
       → (u v : Word) (c l w o : List ℕ) (n : ℕ) → Holds t c l w o n → formula t c l w o n ≡ scale (field_in t) x (shift u v (polynomial_in t item))
       → Working t c l w o n
   first-working k h item x e ex u v c l w o n held d = record {
@@ -39,7 +39,7 @@ module _ (t : List ℕ) (T : Tabled t) where
     G = family (basis_in t)
 
     pub difference_is : f.first < basis_count_in t → f.second < basis_count_in t
-        → (i j x y : ℕ) → i ≡ base_in t + suc f.first → j ≡ base_in t + suc f.second → x ≡ inverse_in t f.first → y ≡ inverse_in t f.second
+        → (i j x y : ℕ) → i ≡ gens_in t + suc f.first → j ≡ gens_in t + suc f.second → x ≡ inverse_in t f.first → y ≡ inverse_in t f.second
         → (h g : Poly) (none front back rest : Word) → none ≡ [] → front ≡ front_of G (pair_of f) → back ≡ back_of G (pair_of f) → rest ≡ rest_of G (pair_of f)
         → h ≡ scale (field_in t) x (shift none rest (polynomial_in t i))
         → g ≡ plus (field_in t) (order_in t) h (scale (field_in t) ((field_in t).neg y) (shift front back (polynomial_in t j)))

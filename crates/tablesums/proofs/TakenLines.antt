@@ -1,4 +1,4 @@
--- A multiple that is added with the opposite of its coefficient is a line taken away, of the basis or of the relations of either house.
+-- A multiple that is added with the opposite of its coefficient is a line taken away, of the basis or of the relations.
 use mathlib.Core.Path.{◌≡◌, ap₂}
 use mathlib.Core.List.{List}
 use Prim.Native.Nat.{ℕ, zero, suc, ◌+◌, ◌≤◌}
@@ -11,10 +11,10 @@ use Rattle.algebra.specs.Steps.{take_away}
 use Rattle.algebra.specs.Written.{plus}
 use Rattle.sumlines.specs.declared.SumAt.{SumAt}
 use Rattle.sumlines.specs.Lines.{taken_line}
-use Rattle.table.specs.Polynomials.{polynomial_in, relations_in, other_relations_in, basis_in}
-use Rattle.table.specs.Table.{field_in, order_in, gens_in, others_in, base_in, basis_count_in}
+use Rattle.table.specs.Polynomials.{polynomial_in, relations_in, basis_in}
+use Rattle.table.specs.Table.{field_in, order_in, gens_in, basis_count_in}
 use Rattle.table.specs.Words.{word_of, line_of}
-use Rattle.table.proofs.Families.{family-relations, family-others, family-basis}
+use Rattle.table.proofs.Families.{family-relations, family-basis}
 use Rattle.tablesums.specs.declared.Sizes.{Sizes}
 use Rattle.tablesums.specs.ShortWords.{ShortWord}
 
@@ -26,7 +26,7 @@ module _ (t : List ℕ) (f : Poly) (x : ℕ) (z : Sizes) (left right : List ℕ)
       (scale (field_in t) ((field_in t).neg x) (shift (word_of t z.left left) (word_of t z.right right) (polynomial_in t item)))
 
   pub without-basis : (of : ℕ) → 1 ≤ of → of ≤ basis_count_in t
-      → without (base_in t + of) ≡ take_away (field_in t) (order_in t) (family (basis_in t)) f (line_of t x z.left left of z.right right)
+      → without (gens_in t + of) ≡ take_away (field_in t) (order_in t) (family (basis_in t)) f (line_of t x z.left left of z.right right)
   unfolding take_away
   without-basis zero some most = absurd (omega arith)
   without-basis (suc k) some most = rw (family-basis t k (omega arith))
@@ -36,12 +36,6 @@ module _ (t : List ℕ) (f : Poly) (x : ℕ) (z : Sizes) (left right : List ℕ)
   unfolding take_away
   without_relation zero some most = absurd (omega arith)
   without_relation (suc k) some most = rw (family-relations t k (omega arith))
-
-  pub without_other : (of : ℕ) → 1 ≤ of → of ≤ others_in t
-      → without (gens_in t + of) ≡ take_away (field_in t) (order_in t) (family (other_relations_in t)) f (line_of t x z.left left of z.right right)
-  unfolding take_away
-  without_other zero some most = absurd (omega arith)
-  without_other (suc k) some most = rw (family-others t k (omega arith))
 
 -- The line whose words `pack_sides` packed is the line in the bytes.
 pub line-packed : (t bytes : List ℕ) (s : SumAt) (z : Sizes) (left right : List ℕ)

@@ -18,14 +18,14 @@ use itemadding::building::build;
 use overlapsearch::PairAt;
 use packing::part::{left_part, right_part};
 use table::Table;
-use table::numbers::{base_in, first_in, size_in, word_at};
+use table::numbers::{first_in, gens_in, size_in, word_at};
 
 // The leading word of basis polynomial g, counted from 0, in six blocks, of which four are zeros. The answer is how many letters it has.
 fn lead_word(t: &Table, g: usize, dst: &mut [u64; 6]) -> usize
     requires { Tabled t.now × (g < basis_count_in t.now) × (length dst.old ≡ 6) }
     ensures { LeadPacked t.now (suc g) result dst.new }
 {
-    let i = first_in(t, base_in(t) + 1 + g);
+    let i = first_in(t, gens_in(t) + 1 + g);
     let at = word_at(i);
     dst[0] = t[at];
     dst[1] = t[at + 1];
@@ -97,6 +97,6 @@ pub fn overlap_word(t: &Table, f: PairAt, rest: &[u64; 6], b: usize, lap: &mut [
     ensures lap_after { word_of t.now result lap.new ≡ overlap_word (family (basis_in t.now)) (pair_of f) }
 {
     let none = [0u64; 6];
-    let first = first_in(t, base_in(t) + 1 + f.first);
+    let first = first_in(t, gens_in(t) + 1 + f.first);
     build(t, first, &none, 0, rest, b, lap)
 }

@@ -17,7 +17,7 @@ use itemadding::placing::place_item;
 use itemadding::taking::take_item;
 use overlapsearch::PairAt;
 use table::Table;
-use table::numbers::{base_in, inverse_in};
+use table::numbers::{gens_in, inverse_in};
 
 // Whatever the arrays hold, they then hold the difference of a pair, whose factors are front, back and rest: each side is divided by its own leading
 // coefficient. The answer is how many terms it has.
@@ -47,7 +47,7 @@ pub fn start_difference(
         (difference (field_in t.now) (family (basis_in t.now)) (pair_of f)) }
 {
     let none = [0u64; 6];
-    let base = base_in(t) + 1;
+    let base = gens_in(t) + 1;
     let x = inverse_in(t, f.first);
     let y = inverse_in(t, f.second);
     let k = place_item(

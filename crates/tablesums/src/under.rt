@@ -15,7 +15,7 @@ use crate::Sizes;
 use itemadding::building::build;
 use packing::order::compare;
 use table::Table;
-use table::numbers::{base_in, first_in};
+use table::numbers::{first_in, gens_in};
 use words::Comparison;
 
 // How the word of size z in u stands to that of size e in v: the weights decide, and then as many blocks as the first word takes.
@@ -53,7 +53,7 @@ pub fn is_under(
         (line_of t.now x sizes.left left.now of sizes.right right.now) }
     ensures buf_len { length buf.new ≡ 9 }
 {
-    let first = first_in(t, base_in(t) + of);
+    let first = first_in(t, gens_in(t) + of);
     let z = build(t, first, left, sizes.left, right, sizes.right, buf);
     let q = stand(buf, z, lap, e);
     match q {

@@ -4,6 +4,7 @@ use mathlib.Core.Path.{◌≡◌, refl, sym, ◌∙◌, ap, ap₂, subst}
 use mathlib.Core.Logic.{◌≢◌}
 use mathlib.Core.List.{List, []}
 use Prim.Native.Nat.{ℕ, zero, suc, ◌+◌, ◌-◌, ◌*◌, ◌/◌, ◌%◌, ◌≤◌, ◌<◌}
+use native.Mathlib.Numerals.{one-add}
 use native.Mathlib.Decide.{dec_lt, ℕ_discrete}
 use native.Mathlib.Omega.{arith}
 use lib.ListN.{length, get_or, set, length-set}
@@ -23,27 +24,26 @@ use Rattle.algebra.proofs.Lines.{shift-nil}
 use Rattle.algebra.proofs.WrittenForm.{written_multiple, scale_one}
 use Rattle.working.specs.Working.{terms}
 use Rattle.working.proofs.Terms.{terms-same}
-use Rattle.table.specs.Table.{prime_in, gens_in, others_in, base_in, basis_count_in, terms_in, items_in, field_in, order_in, inverse_in, first_in, coef_in, size_in, blocks_in}
-use Rattle.table.specs.Polynomials.{word_in, term_in, polynomial_in, polynomials_in, relations_in, other_relations_in, basis_in}
+use Rattle.table.specs.Table.{prime_in, gens_in, basis_count_in, terms_in, items_in, field_in, order_in, inverse_in, first_in, coef_in, size_in, blocks_in}
+use Rattle.table.specs.Polynomials.{word_in, term_in, polynomial_in, polynomials_in, relations_in, basis_in}
 use Rattle.table.specs.Tabled.{Tabled}
-use Rattle.table.proofs.Families.{polynomials-count, family-basis}
+use Rattle.table.proofs.Families.{polynomials-count, family-relations, family-basis}
 use Rattle.table.proofs.Inverses.{inverse-some, inverse-lead}
 use Rattle.tabulating.specs.Divided.{RowsScaled, ItemDivided}
 use Rattle.tabulating.proofs.ItemLists.{polynomials-all, polynomials-same, terms-scaled, scaled-some}
 use Rattle.tabulating.proofs.KeptKeys.{keys_kept}
 use Rattle.tabulating.proofs.KeptWords.{word_kept, held_kept, suits-kept}
-use Rattle.tabulating.proofs.SameTables.{same_self}
 
 module _ (t u : List ℕ) (T : Tabled t) (g : ℕ) (h : g < basis_count_in t) where
   abbrev item : ℕ
-  item = base_in t + suc g
+  item = gens_in t + suc g
 
   module _ (R : RowsScaled t (inverse_in t g) (first_in t item) (first_in t (suc item)) u) where
     abbrev v : List ℕ
     v = set u (80 + g) 1
 
-    few : items_in t ≤ 128
-    few = let a = T.gens in let b = T.others in let c = T.basis in omega arith
+    few : gens_in t + basis_count_in t ≤ 96
+    few = let a = T.gens in let b = T.basis in omega arith
 
     long : length v ≡ 3424
     long = length-set u (80 + g) 1 ∙ R.size ∙ T.size
@@ -179,18 +179,22 @@ module _ (t u : List ℕ) (T : Tabled t) (g : ℕ) (h : g < basis_count_in t) wh
     own-divided = polynomial-own ∙ ap (λ (x : ℕ). scale (field_in t) x (polynomial_in t item)) inverse_is
 
     -- A fact of each basis polynomial of v, from that of the divided one and those of the others.
-    each : (P : Poly → Type 0) → ((k : ℕ) → k < basis_count_in t → k ≢ g → P (polynomial_in t (base_in t + suc k))) → P (polynomial_in v item)
-        → (k : ℕ) → k < basis_count_in t → P (polynomial_in v (base_in t + suc k))
+    each : (P : Poly → Type 0) → ((k : ℕ) → k < basis_count_in t → k ≢ g → P (polynomial_in t (gens_in t + suc k))) → P (polynomial_in v item)
+        → (k : ℕ) → k < basis_count_in t → P (polynomial_in v (gens_in t + suc k))
     each P others this k l = go (ℕ_discrete k g)
       where
-        go : Dec (k ≡ g) → P (polynomial_in v (base_in t + suc k))
+        go : Dec (k ≡ g) → P (polynomial_in v (gens_in t + suc k))
         go (yes e) = rw e this
-        go (no e) = rw (polynomial_other (base_in t + suc k) (omega arith) (omega arith) (λ q. e (omega arith))) (others k l e)
+        go (no e) = rw (polynomial_other (gens_in t + suc k) (omega arith) (omega arith) (λ q. e (omega arith))) (others k l e)
 
     -- What holds of the polynomials of t.
-    basis_at : (P : Poly → Type 0) → All P (basis_in t) → (k : ℕ) → k < basis_count_in t → P (polynomial_in t (base_in t + suc k))
+    basis_at : (P : Poly → Type 0) → All P (basis_in t) → (k : ℕ) → k < basis_count_in t → P (polynomial_in t (gens_in t + suc k))
     unfolding family
-    basis_at P a k l = subst P (family-basis t k l) (all_at a [] k (rw (polynomials-count t (base_in t + 1) (basis_count_in t)) l))
+    basis_at P a k l = subst P (family-basis t k l) (all_at a [] k (rw (polynomials-count t (gens_in t + 1) (basis_count_in t)) l))
+
+    relation_at : (P : Poly → Type 0) → All P (relations_in t) → (k : ℕ) → k < gens_in t → P (polynomial_in t (suc k))
+    unfolding family
+    relation_at P a k l = subst P (family-relations t k l) (all_at a [] k (rw (polynomials-count t 1 (gens_in t)) l))
 
     -- The divided polynomial: in written form, not zero, and it leads with 1.
     own-written : Written (field_in t) (order_in t) (polynomial_in v item)
@@ -210,12 +214,6 @@ module _ (t u : List ℕ) (T : Tabled t) (g : ℕ) (h : g < basis_count_in t) wh
     gens-kept : gens_in v ≡ gens_in t
     gens-kept = kept 2 (omega arith)
 
-    others-kept : others_in v ≡ others_in t
-    others-kept = kept 3 (omega arith)
-
-    base_kept : base_in v ≡ base_in t
-    base_kept = ap₂ ◌+◌ gens-kept others-kept
-
     count_kept : basis_count_in v ≡ basis_count_in t
     count_kept = kept 4 (omega arith)
 
@@ -223,37 +221,29 @@ module _ (t u : List ℕ) (T : Tabled t) (g : ℕ) (h : g < basis_count_in t) wh
     terms-kept = kept 5 (omega arith)
 
     items_kept : items_in v ≡ items_in t
-    items_kept = ap₂ ◌+◌ base_kept count_kept
+    items_kept = ap₂ ◌+◌ gens-kept count_kept
 
     -- The basis polynomials of v, one by one.
-    all-basis : (P : Poly → Type 0) → ((k : ℕ) → k < basis_count_in t → P (polynomial_in v (base_in t + suc k))) → All P (basis_in v)
+    all-basis : (P : Poly → Type 0) → ((k : ℕ) → k < basis_count_in t → P (polynomial_in v (gens_in t + suc k))) → All P (basis_in v)
     all-basis P f =
-        rw (base_kept, count_kept)
-        (polynomials-all P v (base_in t + 1) (basis_count_in t) (λ k l. let e : base_in t + suc k ≡ base_in t + 1 + k = omega arith in subst (λ (i : ℕ). P (polynomial_in v i)) e (f k l)))
+        rw (gens-kept, count_kept)
+        (polynomials-all P v (gens_in t + 1) (basis_count_in t) (λ k l. let e : gens_in t + suc k ≡ gens_in t + 1 + k = omega arith in subst (λ (i : ℕ). P (polynomial_in v i)) e (f k l)))
 
-    -- The polynomials that stand before the basis are as they were: the relations of both houses.
-    run-kept : (j n : ℕ) → 1 ≤ j → j + n ≤ suc (base_in t) → polynomials_in v j n ≡ polynomials_in t j n
-    run-kept j n a b = polynomials-same t v j n (λ k l. polynomial_other (j + k) (omega arith) (omega arith) (λ e. omega arith))
+    all-relations : (P : Poly → Type 0) → ((k : ℕ) → k < gens_in t → P (polynomial_in v (suc k))) → All P (relations_in v)
+    all-relations P f = rw gens-kept (polynomials-all P v 1 (gens_in t) (λ k l. subst (λ (i : ℕ). P (polynomial_in v i)) (sym (one-add k)) (f k l)))
 
-    relations-kept : relations_in v ≡ relations_in t
-    relations-kept = ap (polynomials_in v 1) gens-kept ∙ run-kept 1 (gens_in t) (omega arith) (omega arith)
+    lead_at_lem : (k : ℕ) → k < basis_count_in t → family (basis_in v) (suc k) ≡ polynomial_in v (gens_in t + suc k)
+    lead_at_lem k l = family-basis v k (rw count_kept l) ∙ ap (λ (n : ℕ). polynomial_in v (n + suc k)) gens-kept
 
-    other_relations-kept : other_relations_in v ≡ other_relations_in t
-    other_relations-kept =
-        ap₂ (λ (a b : ℕ). polynomials_in v (a + 1) b) gens-kept others-kept ∙ run-kept (gens_in t + 1) (others_in t) (omega arith) (omega arith)
-
-    lead_at_lem : (k : ℕ) → k < basis_count_in t → family (basis_in v) (suc k) ≡ polynomial_in v (base_in t + suc k)
-    lead_at_lem k l = family-basis v k (rw count_kept l) ∙ ap (λ (n : ℕ). polynomial_in v (n + suc k)) base_kept
-
-    inverses_are : (k : ℕ) → k < basis_count_in t → inverse_in v k ≡ (field_in t).inv (lead_coef (polynomial_in v (base_in t + suc k)))
+    inverses_are : (k : ℕ) → k < basis_count_in t → inverse_in v k ≡ (field_in t).inv (lead_coef (polynomial_in v (gens_in t + suc k)))
     inverses_are k l = go (ℕ_discrete k g)
       where
-        go : Dec (k ≡ g) → inverse_in v k ≡ (field_in t).inv (lead_coef (polynomial_in v (base_in t + suc k)))
+        go : Dec (k ≡ g) → inverse_in v k ≡ (field_in t).inv (lead_coef (polynomial_in v (gens_in t + suc k)))
         go (yes e) = rw e (own ∙ sym (ap (field_in t).inv own-some.1 ∙ inv_one (prime_in t) (below_of (prime_in t) T.field.one_lt)))
         go (no e) =
             let b = T.basis in
             below (80 + k) (omega arith) (λ q. e (omega arith)) ∙ T.inverses k l
-            ∙ ap (λ (f : Poly). (field_in t).inv (lead_coef f)) (family-basis t k l ∙ sym (polynomial_other (base_in t + suc k) (omega arith) (omega arith) (λ q. e (omega arith))))
+            ∙ ap (λ (f : Poly). (field_in t).inv (lead_coef f)) (family-basis t k l ∙ sym (polynomial_other (gens_in t + suc k) (omega arith) (omega arith) (λ q. e (omega arith))))
 
     abbrev Wr : Poly → Type 0
     Wr = Written (field_in t) (order_in t)
@@ -264,7 +254,6 @@ module _ (t u : List ℕ) (T : Tabled t) (g : ℕ) (h : g < basis_count_in t) wh
       prime = rw prime-kept T.prime;
       letters = rw (kept 1 (omega arith)) T.letters;
       gens = rw gens-kept T.gens;
-      others = rw others-kept T.others;
       basis = rw count_kept T.basis;
       terms = rw terms-kept T.terms;
       field = rw prime-kept T.field;
@@ -277,39 +266,46 @@ module _ (t u : List ℕ) (T : Tabled t) (g : ℕ) (h : g < basis_count_in t) wh
       rising = λ j a b. let q : j ≤ items_in t = rw items_kept at b in rw (first-kept j (omega arith), first-kept (suc j) (omega arith)) (T.rising j a q);
       most = λ j a b. let q : j ≤ items_in t = rw items_kept at b in rw (first-kept (suc j) (omega arith), terms-kept) (T.most j a q);
       few = λ j a b. let q : j ≤ items_in t = rw items_kept at b in rw (first-kept j (omega arith), first-kept (suc j) (omega arith)) (T.few j a q);
-      relations-written = rw (prime-kept, relations-kept) T.relations-written;
-      others-written = rw (prime-kept, other_relations-kept) T.others-written;
+      relations-written = rw prime-kept (all-relations Wr (λ k l.
+          rw (polynomial_other (suc k) (omega arith) (omega arith) (λ e. omega arith)) (relation_at Wr T.relations-written k l)));
       basis-written = rw prime-kept (all-basis Wr (each Wr (λ k l n. basis_at Wr T.basis-written k l) own-written));
       nonzero = all-basis (λ f. f ≢ []) (each (λ f. f ≢ []) (λ k l n. basis_at (λ f. f ≢ []) T.nonzero k l) own-some.0);
       inverses = λ k l. let q : k < basis_count_in t = rw count_kept at l in inverses_are k q ∙ rw (prime-kept, lead_at_lem k q);
     }
 
+    relations-kept : relations_in v ≡ relations_in t
+    relations-kept =
+        ap (polynomials_in v 1) gens-kept
+        ∙ polynomials-same t v 1 (gens_in t)
+        (λ k l. let e : 1 + k ≡ suc k = omega arith in rw e (polynomial_other (suc k) (omega arith) (omega arith) (λ q. omega arith)))
+
     pub item-divided : ItemDivided t g v
     item-divided = record {
-      same = record {
-        tabled = tabled_still;
-        prime = prime-kept;
-        letters = kept 1 (omega arith);
-        gens = gens-kept;
-        others-count = others-kept;
-        count = count_kept;
-        relations = relations-kept;
-        other_relations_lem = other_relations-kept;
-      };
+      tabled = tabled_still;
+      prime = prime-kept;
+      letters = kept 1 (omega arith);
+      gens = gens-kept;
+      count = count_kept;
+      relations = relations-kept;
       divided = own-divided;
-      others = λ k l n. polynomial_other (base_in t + suc k) (omega arith) (omega arith) (λ e. n (omega arith));
+      others = λ k l n. polynomial_other (gens_in t + suc k) (omega arith) (omega arith) (λ e. n (omega arith));
     }
 
 -- Where the inverse is 1 the polynomial is divided as it stands.
 pub item-kept : (t : List ℕ) (T : Tabled t) (g : ℕ) → g < basis_count_in t → inverse_in t g ≡ 1 → ItemDivided t g t
 unfolding monic family
 item-kept t T g h e =
-    let f = polynomial_in t (base_in t + suc g) in
+    let f = polynomial_in t (gens_in t + suc g) in
     let one = ap (λ (p : Poly). (field_in t).inv (lead_coef p)) (sym (family-basis t g h)) ∙ sym (T.inverses g h) ∙ e in
     let written = subst (Written (field_in t) (order_in t)) (family-basis t g h)
-    (all_at T.basis-written [] g (rw (polynomials-count t (base_in t + 1) (basis_count_in t)) h)) in
+    (all_at T.basis-written [] g (rw (polynomials-count t (gens_in t + 1) (basis_count_in t)) h)) in
     record {
-      same = same_self t T;
+      tabled = T;
+      prime = refl;
+      letters = refl;
+      gens = refl;
+      count = refl;
+      relations = refl;
       divided = sym (ap (λ (x : ℕ). scale (field_in t) x f) one ∙ scale_one T.field T.suits.admissible written);
       others = λ k l n. refl;
     }

@@ -6,7 +6,6 @@ pub mod TermRows
 pub mod KeptWords
 pub mod ScaledRows
 pub mod ItemLists
-pub mod SameTables
 pub mod DividedItem
 pub mod DividedBasis
 pub mod LeadingCoefs

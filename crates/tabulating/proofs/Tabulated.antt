@@ -1,4 +1,4 @@
--- A table whose sections are filled from the slices of a package holds the package: its numbers, its relations, those of a second house, and its basis.
+-- A table whose sections are filled from the slices of a package holds the package: its numbers, its relations and its basis.
 use mathlib.Core.Path.{◌≡◌, refl, sym, ◌∙◌, ap, ap₂}
 use mathlib.Core.List.{List, ◌∷◌}
 use Prim.Native.Nat.{ℕ, zero, suc, ◌+◌, ◌-◌, ◌*◌, ◌≤◌, ◌<◌}
@@ -11,15 +11,13 @@ use Rattle.lists.proofs.Parts.{part_length}
 use Rattle.lists.proofs.Entries.{part_at}
 use Rattle.words.specs.Laid.{laid_word}
 use Rattle.package.specs.declared.Head.{Head}
-use Rattle.package.specs.Held.{InBounds}
-use Rattle.package.specs.Items.{before_basis}
 use Rattle.working.specs.Working.{terms}
 use Rattle.working.specs.Polynomial.{poly_term}
 use Rattle.working.specs.Family.{between, poly_between, family_at, Runs}
 use Rattle.working.proofs.Terms.{terms-shift}
 use Rattle.working.proofs.Between.{between-length}
-use Rattle.table.specs.Table.{prime_in, letters_in, gens_in, others_in, base_in, basis_count_in, terms_in, items_in, key_in, first_in}
-use Rattle.table.specs.Polynomials.{term_in, polynomials_in, relations_in, other_relations_in, basis_in, NoneZero}
+use Rattle.table.specs.Table.{prime_in, letters_in, gens_in, basis_count_in, terms_in, items_in, key_in, first_in}
+use Rattle.table.specs.Polynomials.{term_in, polynomials_in, relations_in, basis_in, NoneZero}
 use Rattle.table.specs.Tabled.{Tabled}
 use Rattle.tabulating.specs.Filled.{Filled}
 use Rattle.tabulating.specs.Plain.{Plain}
@@ -37,36 +35,36 @@ pub record Begun (h : Head) (m : ℕ) (coefs firsts t : List ℕ) : Type 0 where
   pub size : length t ≡ 3424
   pub head : (k : ℕ) → k < 6 → get_or t k 0 ≡ head_entry h m k
   pub plain : Plain t
-  pub inverses : (g : ℕ) → g < h.basis → get_or t (80 + g) 0 ≡ inverse_entry h.p coefs firsts (before_basis h + 1) g
-  pub starting : (j : ℕ) → j < before_basis h + h.basis + 2 → get_or t (208 + j) 0 ≡ get_or firsts j 0
+  pub inverses : (g : ℕ) → g < h.basis → get_or t (80 + g) 0 ≡ inverse_entry h.p coefs firsts (h.gens + 1) g
+  pub starting : (j : ℕ) → j < h.gens + h.basis + 2 → get_or t (208 + j) 0 ≡ get_or firsts j 0
 
 pub record Sections (h : Head) (coefs starts lens bytes firsts : List ℕ) (m : ℕ) (t : List ℕ) : Type 0 where
   pub begun : Begun h m coefs firsts t
   pub rows : (k : ℕ) → k < 3 * m → get_or t (352 + k) 0 ≡ row_entry (key_in t) coefs starts lens bytes k
 
 -- The sections before the rows, filled one after the other.
-pub begun_of : (h : Head) (m : ℕ) (coefs firsts : List ℕ) {t₀ t₁ t₂ t₃ t : List ℕ} → InBounds h → length t₀ ≡ 3424
-    → Filled 0 6 (head_entry h m) t₀ t₁ → Plain t₂ → Filled 16 64 (λ k. get_or t₂ (16 + k) 0) t₁ t₂ → Filled 80 h.basis (inverse_entry h.p coefs firsts (before_basis h + 1)) t₂ t₃
-    → Filled 208 (before_basis h + h.basis + 2) (λ j. get_or firsts j 0) t₃ t → Begun h m coefs firsts t
-begun_of h m coefs firsts {t₁ = t₁} {t₂ = t₂} {t = t} b e f₁ p f₂ f₃ f₄ = record {
+pub begun_of : (h : Head) (m : ℕ) (coefs firsts : List ℕ) {t₀ t₁ t₂ t₃ t : List ℕ} → h.gens ≤ 32 → h.basis ≤ 64 → length t₀ ≡ 3424
+    → Filled 0 6 (head_entry h m) t₀ t₁ → Plain t₂ → Filled 16 64 (λ k. get_or t₂ (16 + k) 0) t₁ t₂ → Filled 80 h.basis (inverse_entry h.p coefs firsts (h.gens + 1)) t₂ t₃
+    → Filled 208 (h.gens + h.basis + 2) (λ j. get_or firsts j 0) t₃ t → Begun h m coefs firsts t
+begun_of h m coefs firsts {t₁ = t₁} {t₂ = t₂} {t = t} few less e f₁ p f₂ f₃ f₄ = record {
   size = f₄.size ∙ f₃.size ∙ f₂.size ∙ f₁.size ∙ e;
   head = λ k l. f₄.below k (omega arith) ∙ f₃.below k (omega arith) ∙ f₂.below k (omega arith)
       ∙ ap (λ (x : ℕ). get_or t₁ x 0) (sym (zero-add k)) ∙ f₁.inside k l;
   plain = plain_kept t₂ t (λ k l. f₄.below k (omega arith) ∙ f₃.below k l) p;
-  inverses = λ g l. f₄.below (80 + g) (omega (arith, b.basis)) ∙ f₃.inside g l;
+  inverses = λ g l. f₄.below (80 + g) (omega arith) ∙ f₃.inside g l;
   starting = f₄.inside;
 }
 
 -- And the rows behind them.
-pub sections_of : {h : Head} {m : ℕ} {firsts t u : List ℕ} (coefs starts lens bytes : List ℕ) → InBounds h → Begun h m coefs firsts t
+pub sections_of : {h : Head} {m : ℕ} {firsts t u : List ℕ} (coefs starts lens bytes : List ℕ) → h.gens ≤ 32 → h.basis ≤ 64 → Begun h m coefs firsts t
     → Filled 352 (3 * m) (row_entry (key_in t) coefs starts lens bytes) t u → Sections h coefs starts lens bytes firsts m u
-sections_of {t = t} {u = u} coefs starts lens bytes few b f = record {
+sections_of {t = t} {u = u} coefs starts lens bytes few less b f = record {
   begun = record {
     size = f.size ∙ b.size;
     head = λ k l. f.below k (omega arith) ∙ b.head k l;
     plain = plain_kept t u (λ k l. f.below k (omega arith)) b.plain;
-    inverses = λ g l. f.below (80 + g) (omega (arith, few.basis)) ∙ b.inverses g l;
-    starting = λ j l. f.below (208 + j) (omega (arith, few.gens, few.others, few.basis)) ∙ b.starting j l;
+    inverses = λ g l. f.below (80 + g) (omega arith) ∙ b.inverses g l;
+    starting = λ j l. f.below (208 + j) (omega arith) ∙ b.starting j l;
   };
   rows = λ k l.
       let same = key_kept t u (λ i q. f.below i (omega arith)) in
@@ -88,7 +86,7 @@ module _ {firsts : List ℕ} {base n m : ℕ} (r : Runs firsts base n m) (j : �
   few_at = rw (number, add-one j) at (r.few (j - base) (omega arith))
 
 module _ {h : Head} {coefs starts lens bytes firsts : List ℕ} {m : ℕ} {t : List ℕ} (l : Lies h coefs starts lens bytes firsts m)
-    (nz : NoneZero (family_at coefs starts lens bytes firsts (before_basis h + 1) h.basis)) (s : Sections h coefs starts lens bytes firsts m t) where
+    (nz : NoneZero (family_at coefs starts lens bytes firsts (h.gens + 1) h.basis)) (s : Sections h coefs starts lens bytes firsts m t) where
   -- The head.
 
   pub prime_is : prime_in t ≡ h.p
@@ -99,12 +97,6 @@ module _ {h : Head} {coefs starts lens bytes firsts : List ℕ} {m : ℕ} {t : L
 
   pub gens_is : gens_in t ≡ h.gens
   gens_is = s.begun.head 2 (omega arith)
-
-  pub others-count_is : others_in t ≡ h.others
-  others-count_is = s.begun.head 3 (omega arith)
-
-  base_is : base_in t ≡ before_basis h
-  base_is = omega (arith, gens_is, others-count_is)
 
   pub basis-count_is : basis_count_in t ≡ h.basis
   basis-count_is = s.begun.head 4 (omega arith)
@@ -145,7 +137,7 @@ module _ {h : Head} {coefs starts lens bytes firsts : List ℕ} {m : ℕ} {t : L
       term_of (a + j) (omega arith) ∙ rw (e, part_at coefs a (b - a) j q, part_at starts a (b - a) j q, part_at lens a (b - a) j q))
       ∙ ap (terms part 0) (sym size)
 
-  polynomials_of : (base n j k : ℕ) → Runs firsts base n m → base ≤ j → j + k ≡ base + n → j + k < before_basis h + h.basis + 2
+  polynomials_of : (base n j k : ℕ) → Runs firsts base n m → base ≤ j → j + k ≡ base + n → j + k < h.gens + h.basis + 2
       → polynomials_in t j k ≡ family_at coefs starts lens bytes firsts j k
   unfolding polynomials_in family_at
   polynomials_of base n j zero r o e q = refl
@@ -158,27 +150,22 @@ module _ {h : Head} {coefs starts lens bytes firsts : List ℕ} {m : ℕ} {t : L
   pub relations_are : relations_in t ≡ family_at coefs starts lens bytes firsts 1 h.gens
   relations_are = ap (polynomials_in t 1) gens_is ∙ polynomials_of 1 h.gens 1 h.gens l.relation_runs (omega arith) refl (omega arith)
 
-  pub others_are : other_relations_in t ≡ family_at coefs starts lens bytes firsts (h.gens + 1) h.others
-  others_are =
-      ap₂ (λ (a b : ℕ). polynomials_in t (a + 1) b) gens_is others-count_is
-      ∙ polynomials_of (h.gens + 1) h.others (h.gens + 1) h.others l.other_runs (omega arith) refl (omega arith)
-
-  pub basis_is : basis_in t ≡ family_at coefs starts lens bytes firsts (before_basis h + 1) h.basis
+  pub basis_is : basis_in t ≡ family_at coefs starts lens bytes firsts (h.gens + 1) h.basis
   basis_is =
-      ap₂ (λ (a b : ℕ). polynomials_in t (a + 1) b) base_is basis-count_is
-      ∙ polynomials_of (before_basis h + 1) h.basis (before_basis h + 1) h.basis l.basis-runs (omega arith) refl (omega arith)
+      ap₂ (λ (a b : ℕ). polynomials_in t (a + 1) b) gens_is basis-count_is
+      ∙ polynomials_of (h.gens + 1) h.basis (h.gens + 1) h.basis l.basis-runs (omega arith) refl (omega arith)
 
-  -- A fact of each item, from those of the three runs.
-  item : (P : ℕ → Type 0) → ((base n : ℕ) → Runs firsts base n m → (j : ℕ) → base ≤ j → j < base + n → P j) → (j : ℕ) → 1 ≤ j → j ≤ items_in t → P j
-  item P f j o k = go (dec_lt h.gens j) (dec_lt (before_basis h) j)
+  -- A fact of each item, from those of the relations and of the basis.
+  item : (P : ℕ → Type 0) → ((j : ℕ) → 1 ≤ j → j < 1 + h.gens → P j) → ((j : ℕ) → h.gens + 1 ≤ j → j < h.gens + 1 + h.basis → P j)
+      → (j : ℕ) → 1 ≤ j → j ≤ items_in t → P j
+  item P f g j o k = go (dec_lt h.gens j)
     where
-      go : Dec (h.gens < j) → Dec (before_basis h < j) → P j
-      go d (yes e) = f (before_basis h + 1) h.basis l.basis-runs j (omega arith) (omega (arith, base_is, basis-count_is))
-      go (yes d) (no e) = f (h.gens + 1) h.others l.other_runs j (omega arith) (omega arith)
-      go (no d) (no e) = f 1 h.gens l.relation_runs j o (omega arith)
+      go : Dec (h.gens < j) → P j
+      go (yes d) = g j (omega arith) (omega (arith, gens_is, basis-count_is))
+      go (no d) = f j o (omega arith)
 
   start_is : (j : ℕ) → j ≤ suc (items_in t) → first_in t j ≡ get_or firsts j 0
-  start_is j q = s.begun.starting j (omega (arith, base_is, basis-count_is))
+  start_is j q = s.begun.starting j (omega (arith, gens_is, basis-count_is))
 
   below : (i : ℕ) → i < terms_in t → i < m
   below i q = omega (arith, terms_are)
@@ -189,10 +176,9 @@ module _ {h : Head} {coefs starts lens bytes firsts : List ℕ} {m : ℕ} {t : L
       record {
         size = s.begun.size;
         prime = let k = l.prime in omega (arith, prime_is);
-        letters = rw letter-count_is l.counts.letters;
-        gens = rw gens_is l.counts.gens;
-        others = rw others-count_is l.counts.others;
-        basis = rw basis-count_is l.counts.basis;
+        letters = rw letter-count_is l.alphabet;
+        gens = rw gens_is l.gens;
+        basis = rw basis-count_is l.basis;
         terms = rw terms_are l.count;
         field = rw prime_is l.field;
         suits = plain_suits t s.begun.plain;
@@ -202,13 +188,12 @@ module _ {h : Head} {coefs starts lens bytes firsts : List ℕ} {m : ℕ} {t : L
         held = λ i q. held_is t keys i _ _ (row_is i (below i q));
         coded = λ i q. coded_is t keys i _ _ (row_is i (below i q));
         rising = λ j o k. rw (start_is j (omega arith), start_is (suc j) (omega arith))
-            (item (λ (j : ℕ). get_or firsts j 0 ≤ get_or firsts (suc j) 0) (λ base n r. rising_at r) j o k);
+            (item (λ (j : ℕ). get_or firsts j 0 ≤ get_or firsts (suc j) 0) (rising_at l.relation_runs) (rising_at l.basis-runs) j o k);
         most = λ j o k. rw (start_is (suc j) (omega arith), terms_are)
-            (item (λ (j : ℕ). get_or firsts (suc j) 0 ≤ m) (λ base n r. most_at r) j o k);
+            (item (λ (j : ℕ). get_or firsts (suc j) 0 ≤ m) (most_at l.relation_runs) (most_at l.basis-runs) j o k);
         few = λ j o k. rw (start_is j (omega arith), start_is (suc j) (omega arith))
-            (item (λ (j : ℕ). get_or firsts (suc j) 0 ≤ get_or firsts j 0 + 48) (λ base n r. few_at r) j o k);
+            (item (λ (j : ℕ). get_or firsts (suc j) 0 ≤ get_or firsts j 0 + 48) (few_at l.relation_runs) (few_at l.basis-runs) j o k);
         relations-written = rw (prime_is, relations_are) l.relations-written;
-        others-written = rw (prime_is, others_are) l.others-written;
         basis-written = rw (prime_is, basis_is) l.basis-written;
         nonzero = rw basis_is nz;
         inverses = λ g q.

@@ -6,9 +6,9 @@ use Rattle.words.specs.Weighted.{weight}
 use Rattle.packedwords.specs.Packed.{window}
 use Rattle.package.specs.declared.Head.{Head}
 
--- Entry k of the head of a package with m terms.
+-- Entry k of the head of a package with m terms: the relations of a second house are none.
 abbrev pub head_entry : Head → ℕ → ℕ → ℕ
-head_entry h m k = get_or (h.p ∷ h.letters ∷ h.gens ∷ h.others ∷ h.basis ∷ m ∷ []) k 0
+head_entry h m k = get_or (h.p ∷ h.letters ∷ h.gens ∷ 0 ∷ h.basis ∷ m ∷ []) k 0
 
 -- The row of the term with coefficient c and word w, by the keys of the letters: coefficient and size, and the word's two blocks.
 abbrev pub row_of : (ℕ → ℕ) → ℕ → Word → List ℕ

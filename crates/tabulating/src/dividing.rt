@@ -2,15 +2,15 @@
 
 ghost use Rattle.std.specs.Prelude.{◌≡◌, map, ◌≤◌, ◌<◌};
 ghost use Rattle.algebra.specs.Groebner.{monic};
-ghost use Rattle.table.specs.Table.{prime_in, letters_in, gens_in, others_in, basis_count_in, field_in, terms_in};
-ghost use Rattle.table.specs.Polynomials.{relations_in, other_relations_in, basis_in};
+ghost use Rattle.table.specs.Table.{prime_in, letters_in, gens_in, basis_count_in, field_in, terms_in};
+ghost use Rattle.table.specs.Polynomials.{relations_in, basis_in};
 ghost use Rattle.table.specs.Tabled.{Tabled};
 ghost use Rattle.tabulating.specs.Divided.{RowsScaled, ItemDivided};
 
 use crate::rows::joined;
 use field::arithmetic::mul;
 use table::Table;
-use table::numbers::{base_in, basis_in, coef_in, first_in, inverse_in, prime_in, size_in};
+use table::numbers::{basis_in, coef_in, first_in, gens_in, inverse_in, prime_in, size_in};
 
 // The coefficients of the terms from first on, before end, each times y.
 fn scale_rows(t: &mut Table, y: u32, first: usize, end: usize)
@@ -36,7 +36,7 @@ fn divide_item(t: &mut Table, g: usize)
     if y == 1 {
         return;
     }
-    let item = base_in(t) + 1 + g;
+    let item = gens_in(t) + 1 + g;
     let first = first_in(t, item);
     let end = first_in(t, item + 1);
     scale_rows(t, y, first, end);
@@ -48,9 +48,8 @@ pub fn divide_basis(t: &mut Table)
     requires { Tabled t.old }
     ensures tabled { Tabled t.new }
     ensures t_unchanged { (prime_in t.new ≡ prime_in t.old) × (letters_in t.new ≡ letters_in t.old) }
-    ensures t_unchanged_2 { (gens_in t.new ≡ gens_in t.old) × (others_in t.new ≡ others_in t.old)
-        × (basis_count_in t.new ≡ basis_count_in t.old) }
-    ensures t_unchanged_3 { (relations_in t.new ≡ relations_in t.old) × (other_relations_in t.new ≡ other_relations_in t.old) }
+    ensures t_unchanged_2 { (gens_in t.new ≡ gens_in t.old) × (basis_count_in t.new ≡ basis_count_in t.old) }
+    ensures t_unchanged_3 { relations_in t.new ≡ relations_in t.old }
     ensures t_after { basis_in t.new ≡ map (monic (field_in t.old)) (basis_in t.old) }
 {
     let n = basis_in(t);

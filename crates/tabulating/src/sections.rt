@@ -18,7 +18,7 @@ pub fn put_head(t: &mut Table, h: Head, m: usize)
     t[0] = h.p as u64;
     t[1] = h.letters as u64;
     t[2] = h.gens as u64;
-    t[3] = h.others as u64;
+    t[3] = 0;
     t[4] = h.basis as u64;
     t[5] = m as u64;
 }

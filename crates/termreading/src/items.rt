@@ -1,10 +1,10 @@
-// Where the terms of each item start: items are numbered G 1 to gens, then H 1 to others, then B 1 to basis.
+// Where the terms of each item start: items are numbered G 1 to gens, then B 1 to basis.
 
 ghost use Rattle.std.specs.Prelude.{◌≡◌, ◌+◌, ◌<◌, ◌≤◌, length, drop};
 ghost use Rattle.package.specs.Items.{slot, first_of};
-ghost use Rattle.package.specs.Held.{InBounds, slots_held, StartsMarked};
+ghost use Rattle.package.specs.Held.{slots_held, StartsMarked};
 
-use package::{Head, TERM_G, TERM_H};
+use package::{Head, TERM_G};
 
 // The number of an item among all items, counted from 1.
 fn slot_of(h: Head, kind: u8, item: u8) -> usize
@@ -13,10 +13,7 @@ fn slot_of(h: Head, kind: u8, item: u8) -> usize
     if kind as u32 == TERM_G {
         return item as usize;
     }
-    if kind as u32 == TERM_H {
-        return h.gens as usize + item as usize;
-    }
-    h.gens as usize + h.others as usize + item as usize
+    h.gens as usize + item as usize
 }
 
 // The first term from the place at on that belongs to item number j or a later one, or n.
@@ -37,11 +34,11 @@ fn skip_terms(h: Head, kinds: &[u8], items: &[u8], n: usize, at: usize, j: usize
 
 // For each item number j up to the one after the last: how many terms stand before the first of item j.
 pub fn mark_items(h: Head, kinds: &[u8], items: &[u8], n: usize, firsts: &mut [usize])
-    requires in_bounds { InBounds h }
-    requires n_in_bounds { (n ≤ length kinds.now) × (n ≤ length items.now) × (length firsts.old ≡ 130) }
+    requires gens_bound { (h.gens ≤ 32) × (h.basis ≤ 64) }
+    requires n_in_bounds { (n ≤ length kinds.now) × (n ≤ length items.now) × (length firsts.old ≡ 98) }
     ensures { StartsMarked h kinds.now items.now n firsts.new }
 {
-    let end = h.gens as usize + h.others as usize + h.basis as usize + 2;
+    let end = h.gens as usize + h.basis as usize + 2;
     let mut m = 0;
     let mut j = 0;
     while j < end {

@@ -2,16 +2,14 @@
 
 ghost use Rattle.std.specs.Prelude.{◌≡◌, [], ◌+◌, ◌-◌, ◌<◌, ◌≤◌, length, drop, set};
 ghost use Rattle.text.specs.Pieces.{lines, fields, part};
-ghost use Rattle.package.specs.Terms.{term, term_form, term_kind_fits, items_of, term_fits, start, follows, counted, judged, judge_term, block2};
-ghost use Rattle.package.specs.Held.{InBounds, seen_term, reach, seen_judged, reach_judged, above_of, seen_terms, TermsHeld};
+ghost use Rattle.package.specs.Terms.{term, term_form, items_of, term_fits, start, follows, counted, judged, judge_term, block2};
+ghost use Rattle.package.specs.Held.{seen_term, reach, seen_judged, reach_judged, above_of, seen_terms, TermsHeld};
 
 use kindreading::kind::inner_rank;
 use linetests::bounds::{coef_fits, word_fits};
 use linetests::names::is_sum_names;
 use numberreading::number::inner_number;
-use package::{
-    Head, Last, Limits, Refusal, TERM_G, TERM_H, TermJudged, TermRead, TermsAt, TermsEnded,
-};
+use package::{Head, Last, Limits, Refusal, TERM_G, TermJudged, TermRead, TermsAt, TermsEnded};
 use text::bytes::{find, is_within};
 use text::{NumAt, WordLen};
 use wordorder::order::is_below;
@@ -25,7 +23,7 @@ pub fn read_term_line(l: &[u8]) -> TermRead
     let NumAt::Read {
         value: kind,
         next: a,
-    } = inner_rank(b"GHB", l, 0)
+    } = inner_rank(b"GB", l, 0)
     else {
         return TermRead::Misshapen;
     };
@@ -55,25 +53,12 @@ pub fn read_term_line(l: &[u8]) -> TermRead
     }
 }
 
-// Whether a kind stands in this package: H only with a second house.
-fn term_kind_fits(h: Head, kind: u32) -> bool
-    ensures { result ≡ term_kind_fits h kind }
-{
-    if kind == TERM_H {
-        return 0 < h.others;
-    }
-    true
-}
-
 // How many items a kind has.
 fn items_of(h: Head, kind: u32) -> u32
     ensures { result ≡ items_of h kind }
 {
     if kind == TERM_G {
         return h.gens;
-    }
-    if kind == TERM_H {
-        return h.others;
     }
     h.basis
 }
@@ -122,7 +107,7 @@ fn term_count(last: Last, kind: u32, item: u32) -> usize
     1
 }
 
-// A term line that has the form of one, its word at s[start..start + len]: refusals 2 for its kind, 5, 6, 7.
+// A term line that has its shape, its word at s[start..start + len]: refusals 5, 6, 7.
 fn judge_read(
     h: Head,
     m: Limits,
@@ -142,9 +127,6 @@ fn judge_read(
     ensures result_value { seen_judged s.now result ≡ judged h m (above_of s.now last) total (term kind item coef (part s.now start len)) }
     ensures result_in_bounds { reach_judged result ≤ length s.now }
 {
-    if !term_kind_fits(h, kind) {
-        return TermJudged::Refused(2);
-    }
     let e = start + len;
     if !term_fits(h, m, kind, item, coef, &s[start..e]) {
         return TermJudged::Refused(5);
@@ -240,7 +222,7 @@ pub fn read_terms(
     starts: &mut [u32],
     lens: &mut [u8],
 ) -> TermsEnded
-    requires in_bounds { InBounds h }
+    requires letters_bound { (h.letters ≤ 26) × (h.gens ≤ 32) × (h.basis ≤ 64) }
     requires terms_bound { (m.terms ≤ 65536) × (m.len ≤ 255) }
     requires from_in_bounds { (from ≤ length s.now) × (first ≤ from + 4) × (length s.now ≤ 65536) }
     requires kinds_len { (length kinds.old ≡ 1024) × (length items.old ≡ 1024) × (length coefs.old ≡ 1024) × (length starts.old ≡ 1024) × (length lens.old ≡ 1024) }

@@ -1,7 +1,6 @@
-//! Checking a package: refusals 8, 10 to 15, 28 and 29 of a package that reads, in their order.
+//! Checking a package: refusals 8 to 15 of a package that reads, in their order.
 
 use crate::coefficients::negative;
-use crate::kinds::SumKind;
 use crate::leads::judge_zeros;
 use crate::list::{differences, list, Entry};
 use crate::package::{read, Package, SumLine};
@@ -16,51 +15,26 @@ pub fn accept(bytes: &[u8]) -> Result<(Package, Vec<Entry>), Refusal> {
     let package = read(bytes)?;
     judge_zeros(&package)?;
     let list = list(&package.basis);
-    for kind in [SumKind::B, SumKind::C, SumKind::G, SumKind::H, SumKind::O] {
-        judge_sums(&package, &list, kind)?;
-    }
+    judge_sums(&package, &list)?;
     Ok((package, list))
 }
 
-/// The sums of one kind, in the order of their items: B (10, 11), C (10, 28), G (10, 12), H (10, 29), O (15, then 14,
-/// 10, 13). B and C are the basis over a house's relations, G and H are these over the basis. Without a second house
-/// there is no sum C or H.
-pub fn judge_sums(package: &Package, list: &[Entry], kind: SumKind) -> Result<(), Refusal> {
-    let Package { p, basis, first, second, .. } = package;
-    match (kind, second) {
-        (SumKind::B, _) => judge_items(*p, basis, &first.basis_sums, &first.relations, 11),
-        (SumKind::C, Some(second)) => judge_items(*p, basis, &second.basis_sums, &second.relations, 28),
-        (SumKind::G, _) => judge_items(*p, &first.relations, &first.relation_sums, basis, 12),
-        (SumKind::H, Some(second)) => judge_items(*p, &second.relations, &second.relation_sums, basis, 29),
-        (SumKind::C | SumKind::H, None) => Ok(()),
-        (SumKind::O, _) => judge_list(package, list),
+/// B items (10, 11), G items (10, 12), then 15, then O items (14, 10, 13).
+fn judge_sums(package: &Package, list: &[Entry]) -> Result<(), Refusal> {
+    let Package { p, relations, basis, .. } = package;
+    for (item, (target, lines)) in (1..).zip(basis.iter().zip(&package.b_sums)) {
+        judge_sum(*p, target.clone(), lines, relations, (11, item), |_| true)?;
     }
-}
-
-/// Each target must be the sum that its lines give over these polynomials; `wrong` is the number for one that is not.
-pub fn judge_items(
-    p: u64,
-    targets: &[Poly],
-    sums: &[Vec<SumLine>],
-    polys: &[Poly],
-    wrong: u64,
-) -> Result<(), Refusal> {
-    for (item, (target, lines)) in (1..).zip(targets.iter().zip(sums)) {
-        judge_sum(p, target.clone(), lines, polys, (wrong, item), |_| true)?;
+    for (item, (target, lines)) in (1..).zip(relations.iter().zip(&package.g_sums)) {
+        judge_sum(*p, target.clone(), lines, basis, (12, item), |_| true)?;
     }
-    Ok(())
-}
-
-/// 15, then the differences of the list over the basis.
-fn judge_list(package: &Package, list: &[Entry]) -> Result<(), Refusal> {
-    let Package { p, basis, o_sums, .. } = package;
     let count = list.len() as u64;
-    if let Some((_, lines)) = o_sums.range(count + 1..).next() {
+    if let Some((_, lines)) = package.o_sums.range(count + 1..).next() {
         return refuse(15, lines[0].line);
     }
     let no_lines = Vec::new();
     for (item, (entry, difference)) in (1..).zip(list.iter().zip(differences(*p, basis, list))) {
-        let lines = o_sums.get(&item).unwrap_or(&no_lines);
+        let lines = package.o_sums.get(&item).unwrap_or(&no_lines);
         let top = entry.word(basis);
         let below = |sum: &SumLine| {
             let lead = lead_word(&basis[sum.of as usize - 1]);

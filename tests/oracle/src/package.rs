@@ -1,7 +1,6 @@
 //! Reading a package: refusals 1 to 7, line by line from the top.
 
-use crate::head::read_head;
-use crate::kinds::{SumKind, TermKind};
+use crate::coefficients::is_field;
 use crate::lines::{fields, number, word, Lines};
 use crate::poly::Poly;
 use crate::refusal::{refuse, Refusal};
@@ -13,6 +12,7 @@ pub const TERM_LINES: u64 = 1_024;
 pub const TERMS: usize = 48;
 pub const LETTERS: usize = 24;
 
+const NAMES_1: &[u8] = b"p letters gens basis";
 const NAMES_2: &[u8] = b"kind item coef word";
 const NAMES_3: &[u8] = b"kind item coef left of right";
 
@@ -27,25 +27,15 @@ pub struct SumLine {
     pub right: Word,
 }
 
-/// A house: its relations, and the sums that say that they and the basis generate the same.
-#[derive(Debug)]
-pub struct House {
-    pub relations: Vec<Poly>,
-    /// The basis polynomials over these relations: kind B for the first house, C for the second.
-    pub basis_sums: Vec<Vec<SumLine>>,
-    /// These relations over the basis: kind G for the first house, H for the second.
-    pub relation_sums: Vec<Vec<SumLine>>,
-}
-
 /// A package that reads. Polynomials and items are numbered from 1; item i stands at index i - 1.
 #[derive(Debug)]
 pub struct Package {
     pub p: u64,
     pub letters: u64,
+    pub relations: Vec<Poly>,
     pub basis: Vec<Poly>,
-    pub first: House,
-    /// None under the line 1 that says nothing of a second house.
-    pub second: Option<House>,
+    pub b_sums: Vec<Vec<SumLine>>,
+    pub g_sums: Vec<Vec<SumLine>>,
     /// By item. An O item has no upper bound here.
     pub o_sums: BTreeMap<u64, Vec<SumLine>>,
 }
@@ -61,85 +51,64 @@ pub fn read(bytes: &[u8]) -> Result<Package, Refusal> {
         return refuse(1, 0);
     }
     let lines = Lines::of(bytes);
-    let head = read_head(&lines)?;
-    let house = |relations: u64| House {
-        relations: vec![Poly::new(); relations as usize],
-        basis_sums: vec![Vec::new(); head.basis as usize],
-        relation_sums: vec![Vec::new(); relations as usize],
-    };
-    let mut package = Package {
-        p: head.p,
-        letters: head.letters,
-        basis: vec![Poly::new(); head.basis as usize],
-        first: house(head.gens),
-        second: head.others.map(house),
-        o_sums: BTreeMap::new(),
-    };
-    if lines.get(3) != Some(NAMES_2) {
-        return refuse(2, 3);
-    }
+    names(&lines, 1, NAMES_1)?;
+    let mut package = counts(&lines)?;
+    names(&lines, 3, NAMES_2)?;
     let line = read_terms(&lines, &mut package)?;
     read_sums(&lines, line, &mut package)?;
     Ok(package)
 }
 
-impl Package {
-    pub fn has_two_houses(&self) -> bool {
-        self.second.is_some()
+/// Line `line` must be exactly these names.
+fn names(lines: &Lines, line: u64, expected: &[u8]) -> Result<(), Refusal> {
+    if lines.get(line) == Some(expected) {
+        Ok(())
+    } else {
+        refuse(2, line)
     }
+}
 
-    /// The house that a kind is about. No kind of the second house is met where there is none.
-    fn house(&mut self, second: bool) -> &mut House {
-        if second {
-            self.second.as_mut().expect("a second house")
-        } else {
-            &mut self.first
-        }
-    }
+/// Line 2, where it has its shape: p and three counts.
+fn values(lines: &Lines) -> Option<[u64; 4]> {
+    let numbers: Option<Vec<u64>> = fields(lines.get(2)?).into_iter().map(number).collect();
+    numbers?.try_into().ok()
+}
 
-    /// What the terms of a kind make.
-    fn polys(&mut self, kind: TermKind) -> &mut Vec<Poly> {
-        match kind {
-            TermKind::G => &mut self.house(false).relations,
-            TermKind::H => &mut self.house(true).relations,
-            TermKind::B => &mut self.basis,
-        }
-    }
+/// What stands in place of p, where lines 1 and 2 have their shape, whatever else is wrong.
+pub fn stated_p(bytes: &[u8]) -> Option<u64> {
+    let lines = Lines::of(bytes);
+    names(&lines, 1, NAMES_1).ok()?;
+    values(&lines).map(|[p, ..]| p)
+}
 
-    /// The greatest item of a kind of sums, and how many polynomials its lines may name.
-    fn sum_bounds(&self, kind: SumKind) -> (u64, u64) {
-        let count = |polys: &[Poly]| polys.len() as u64;
-        let (gens, basis) = (count(&self.first.relations), count(&self.basis));
-        let others = self.second.as_ref().map_or(0, |house| count(&house.relations));
-        match kind {
-            SumKind::B => (basis, gens),
-            SumKind::C => (basis, others),
-            SumKind::G => (gens, basis),
-            SumKind::H => (others, basis),
-            SumKind::O => (u64::MAX, basis),
-        }
+/// Line 2: p and three counts. 2 for the whole line, then 3, then 4.
+fn counts(lines: &Lines) -> Result<Package, Refusal> {
+    let Some([p, letters, gens, basis]) = values(lines) else {
+        return refuse(2, 2);
+    };
+    if !is_field(p) {
+        return refuse(3, 2);
     }
-
-    /// The lines of an item that is in bounds.
-    fn lines(&mut self, kind: SumKind, item: u64) -> &mut Vec<SumLine> {
-        let index = item as usize - 1;
-        match kind {
-            SumKind::B => &mut self.house(false).basis_sums[index],
-            SumKind::C => &mut self.house(true).basis_sums[index],
-            SumKind::G => &mut self.house(false).relation_sums[index],
-            SumKind::H => &mut self.house(true).relation_sums[index],
-            SumKind::O => self.o_sums.entry(item).or_default(),
-        }
+    if !(1..=26).contains(&letters) || gens > 32 || basis > 64 {
+        return refuse(4, 2);
     }
+    Ok(Package {
+        p,
+        letters,
+        relations: vec![Poly::new(); gens as usize],
+        basis: vec![Poly::new(); basis as usize],
+        b_sums: vec![Vec::new(); basis as usize],
+        g_sums: vec![Vec::new(); gens as usize],
+        o_sums: BTreeMap::new(),
+    })
 }
 
 /// Block 2, from line 4 to the names line of block 3. Gives the number of the line behind that names line.
 fn read_terms(lines: &Lines, package: &mut Package) -> Result<u64, Refusal> {
-    let (p, letters, two_houses) = (package.p, package.letters, package.has_two_houses());
     let mut line = 4;
     let mut count = 0;
-    // Kind, item and word of the line above.
-    let mut above: Option<(TermKind, u64, Word)> = None;
+    // Kind, item and word of the line above, kinds in their order: G is 0, B is 1.
+    let mut above: Option<(u64, u64, Word)> = None;
     loop {
         let Some(text) = lines.get(line) else {
             return refuse(2, line);
@@ -147,12 +116,12 @@ fn read_terms(lines: &Lines, package: &mut Package) -> Result<u64, Refusal> {
         if text == NAMES_3 {
             return Ok(line + 1);
         }
-        let Some((kind, item, coef, word)) = term_shape(text, two_houses) else {
+        let Some((kind, item, coef, word)) = term_shape(text) else {
             return refuse(2, line);
         };
-        let polys = package.polys(kind);
+        let polys = if kind == 0 { &mut package.relations } else { &mut package.basis };
         let item_in_bounds = 1 <= item && item <= polys.len() as u64;
-        if !item_in_bounds || coef == 0 || coef >= p || !word_in_bounds(&word, letters) {
+        if !item_in_bounds || coef == 0 || coef >= package.p || !word_in_bounds(&word, package.letters) {
             return refuse(5, line);
         }
         if let Some((kind_above, item_above, word_above)) = &above {
@@ -173,23 +142,34 @@ fn read_terms(lines: &Lines, package: &mut Package) -> Result<u64, Refusal> {
 }
 
 /// The shape of a term line: four fields, a kind of block 2, two numbers, a word.
-fn term_shape(text: &[u8], two_houses: bool) -> Option<(TermKind, u64, u64, Word)> {
+fn term_shape(text: &[u8]) -> Option<(u64, u64, u64, Word)> {
     let &[kind, item, coef, letters] = fields(text).as_slice() else {
         return None;
     };
-    Some((TermKind::of(kind, two_houses)?, number(item)?, number(coef)?, word(letters)?))
+    let kind = match kind {
+        b"G" => 0,
+        b"B" => 1,
+        _ => return None,
+    };
+    Some((kind, number(item)?, number(coef)?, word(letters)?))
 }
 
 /// Block 3, from `line` to the end of the bytes.
 fn read_sums(lines: &Lines, mut line: u64, package: &mut Package) -> Result<(), Refusal> {
-    let two_houses = package.has_two_houses();
-    // Kind and item of the line above.
-    let mut above: Option<(SumKind, u64)> = None;
+    let gens = package.relations.len() as u64;
+    let basis = package.basis.len() as u64;
+    // Kind and item of the line above, kinds in their order: B is 0, G is 1, O is 2.
+    let mut above = (0, 0);
     while let Some(text) = lines.get(line) {
-        let Some((kind, item, sum)) = sum_shape(text, line, two_houses) else {
+        let Some((kind, item, sum)) = sum_shape(text, line) else {
             return refuse(2, line);
         };
-        let (items, polys) = package.sum_bounds(kind);
+        // What the items and `of` are bounded by: a B sum is over relations, G and O sums over the basis.
+        let (items, polys) = match kind {
+            0 => (basis, gens),
+            1 => (gens, basis),
+            _ => (u64::MAX, basis),
+        };
         let in_bounds = (1..=items).contains(&item)
             && (1..package.p).contains(&sum.coef)
             && (1..=polys).contains(&sum.of)
@@ -198,11 +178,15 @@ fn read_sums(lines: &Lines, mut line: u64, package: &mut Package) -> Result<(), 
         if !in_bounds {
             return refuse(5, line);
         }
-        if above.is_some_and(|above| (kind, item) < above) {
+        if (kind, item) < above {
             return refuse(6, line);
         }
-        above = Some((kind, item));
-        package.lines(kind, item).push(sum);
+        above = (kind, item);
+        match kind {
+            0 => package.b_sums[item as usize - 1].push(sum),
+            1 => package.g_sums[item as usize - 1].push(sum),
+            _ => package.o_sums.entry(item).or_default().push(sum),
+        }
         line += 1;
     }
     if lines.unfinished {
@@ -212,10 +196,16 @@ fn read_sums(lines: &Lines, mut line: u64, package: &mut Package) -> Result<(), 
 }
 
 /// The shape of a sum line: six fields, a kind of block 3, two numbers, a word, a number, a word.
-fn sum_shape(text: &[u8], line: u64, two_houses: bool) -> Option<(SumKind, u64, SumLine)> {
+fn sum_shape(text: &[u8], line: u64) -> Option<(u64, u64, SumLine)> {
     let &[kind, item, coef, left, of, right] = fields(text).as_slice() else {
         return None;
     };
+    let kind = match kind {
+        b"B" => 0,
+        b"G" => 1,
+        b"O" => 2,
+        _ => return None,
+    };
     let sum = SumLine { line, coef: number(coef)?, left: word(left)?, of: number(of)?, right: word(right)? };
-    Some((SumKind::of(kind, two_houses)?, number(item)?, sum))
+    Some((kind, number(item)?, sum))
 }

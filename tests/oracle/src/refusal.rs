@@ -1,4 +1,4 @@
-//! A refusal: its number, 1 to 8, 10 to 19, 28 or 29, and its place.
+//! A refusal: its number, 1 to 8 or 10 to 19, and its place.
 
 #[derive(Clone, Copy, Debug, PartialEq, Eq)]
 pub struct Refusal {

@@ -119,7 +119,7 @@ pub fn near_bound(random: &mut Random, p: u64) -> Vec<u8> {
 }
 
 /// One relation of `terms` terms over 26 letters, which is its own basis and overlaps nothing.
-pub fn one_polynomial(p: u64, terms: usize) -> Draft {
+fn one_polynomial(p: u64, terms: usize) -> Draft {
     let lower = (b'b'..=b'd').flat_map(|x| (b'b'..=b'z').map(move |y| Word(vec![x, y])));
     let mut f: Poly = lower.take(terms - 1).map(|word| (word, p - 1)).collect();
     f.insert(Word::new("ab"), 1);
@@ -132,27 +132,16 @@ pub fn one_polynomial(p: u64, terms: usize) -> Draft {
 
 /// E with G lines that cancel, so that it has exactly so many bytes. It is over GF(256), or else over GF(7).
 fn padded_e(p: u64, bytes: usize) -> Vec<u8> {
-    if p == GF_256 {
-        padded(p, &e_256(), 'G', "O 1 ", bytes)
-    } else {
-        padded(7, E, 'G', "O 1 ", bytes)
-    }
-}
-
-/// A package with lines of item 1 of a kind that cancel, put where `at` stands first, so that it has exactly so many
-/// bytes. They are over polynomial 1. A coefficient of the field has one digit where it is minus 1 or minus 3.
-pub fn padded(p: u64, package: &str, kind: char, at: &str, bytes: usize) -> Vec<u8> {
-    let (head, tail) = package.split_at(package.find(at).expect("a line to stand before"));
+    let (p, e) = if p == GF_256 { (p, e_256()) } else { (7, E.to_string()) };
+    let (head, tail) = e.split_at(e.find("O 1 ").expect("an O line"));
     let mut text = head.to_string();
     // Two lines with coefficients 1 and minus 1 add up to 0, and three with 1, 2 and minus their sum. A line
     // with left of n letters has 11 + n bytes.
     let (minus_one, third) = (negative(p, 1), negative(p, add(p, 1, 2)));
-    let mut put = |coef: u64, letters: usize| {
-        text += &format!("{kind} 1 {coef} {} 1 -\n", "b".repeat(letters));
-    };
-    let mut missing = bytes - package.len();
+    let mut missing = bytes - e.len();
     if missing % 2 == 1 {
-        [1, 2, third].into_iter().for_each(|coef| put(coef, 4));
+        let left = "b".repeat(4);
+        text += &format!("G 1 1 {left} 1 -\nG 1 2 {left} 1 -\nG 1 {third} {left} 1 -\n");
         missing -= 45;
     }
     while missing > 0 {
@@ -164,7 +153,7 @@ pub fn padded(p: u64, package: &str, kind: char, at: &str, bytes: usize) -> Vec<
         } else {
             1 + missing % 20
         };
-        [1, minus_one].into_iter().for_each(|coef| put(coef, letters));
+        text += &format!("G 1 1 {0} 1 -\nG 1 {minus_one} {0} 1 -\n", "b".repeat(letters));
         missing -= 2 * (11 + letters);
     }
     (text + tail).into_bytes()

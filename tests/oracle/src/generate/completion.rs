@@ -36,7 +36,7 @@ fn reduce_known(p: u64, known: &mut Known, others: &[Known], whole: bool) -> Opt
 /// A package for these relations, or None when the completion gives up.
 pub fn complete(random: &mut Random, p: u64, letters: u64, relations: &[Poly], keep: Keep) -> Option<Draft> {
     let start = relations.iter().zip(1..).filter(|(f, _)| !f.is_empty());
-    let mut waiting: Vec<Known> = start.map(|(f, of)| Known::number(f, of)).collect();
+    let mut waiting: Vec<Known> = start.map(|(f, of)| Known::relation(f, of)).collect();
     let mut basis: Vec<Known> = Vec::new();
     loop {
         while let Some(next) = waiting.pop() {

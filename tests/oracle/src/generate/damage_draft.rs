@@ -1,6 +1,5 @@
 //! Damage to a package with a refusal in view: each target changes what that refusal judges.
 
-use crate::generate::damage_house::damage_house;
 use crate::generate::damage_list::{above_count, not_below};
 use crate::generate::damage_scale::{scale_difference, scale_lead, scale_without};
 use crate::generate::draft::{Draft, Sum, Term};
@@ -16,7 +15,7 @@ const P_VALUES: [u64; 20] = [
 ];
 
 /// What is changed: what a refusal judges (1 and 2 are reached by damage to the text, 7 and 10 by packages of their
-/// own), a leading word, the polynomials' order, any coefficient, or what stands of a second house.
+/// own), a leading word, the polynomials' order, or any coefficient.
 #[derive(Clone, Copy)]
 pub enum Aim {
     P,
@@ -25,9 +24,7 @@ pub enum Aim {
     Order,
     Zero,
     BasisSum,
-    OtherBasisSum,
     RelationSum,
-    OtherRelationSum,
     ListSum,
     OtherList,
     NotBelow,
@@ -35,7 +32,6 @@ pub enum Aim {
     LeadingWord,
     Exchange,
     Coefficient,
-    House,
 }
 
 /// Changes the draft with an aim. It may stay as it was when it has nothing to change.
@@ -46,20 +42,17 @@ pub fn aim(random: &mut Random, draft: &mut Draft, at: Aim) {
     }
     match at {
         Aim::P => draft.p = *random.pick(&P_VALUES),
-        Aim::Counts => match random.below(5) {
+        Aim::Counts => match random.below(4) {
             0 => draft.letters = *random.pick(&[0, 27, 99_999]),
             1 => draft.gens = *random.pick(&[33, 64, 65_537]),
             2 => draft.basis = *random.pick(&[65, 256, 65_600]),
-            3 => draft.others = Some(*random.pick(&[0, 33, 64, 65_537])),
             _ => (draft.p, draft.letters) = (*random.pick(&[9, 256]), 27),
         },
         Aim::Bounds => out_of_bounds(random, draft),
         Aim::Order => out_of_order(random, draft),
         Aim::Zero => zero_polynomial(random, draft),
         Aim::BasisSum => wrong_sum(random, draft, 'B'),
-        Aim::OtherBasisSum => wrong_sum(random, draft, 'C'),
         Aim::RelationSum => wrong_sum(random, draft, 'G'),
-        Aim::OtherRelationSum => wrong_sum(random, draft, 'H'),
         Aim::ListSum => wrong_sum(random, draft, 'O'),
         Aim::OtherList => other_list(random, draft),
         Aim::NotBelow => not_below(random, draft),
@@ -68,7 +61,6 @@ pub fn aim(random: &mut Random, draft: &mut Draft, at: Aim) {
         Aim::Exchange => exchange(random, draft),
         Aim::Coefficient if random.one_in(3) => scale_lead(random, draft),
         Aim::Coefficient => change_coefficient(random, draft),
-        Aim::House => damage_house(random, draft),
     }
 }
 
@@ -82,7 +74,7 @@ fn out_of_bounds(random: &mut Random, draft: &mut Draft) {
     };
     if random.one_in(2) && !draft.terms.is_empty() {
         let index = random.index(&draft.terms);
-        let count = draft.count(draft.terms[index].kind);
+        let count = if draft.terms[index].kind == 'G' { draft.gens } else { draft.basis };
         let term = &mut draft.terms[index];
         match random.below(3) {
             0 => term.coef = bad_coef,
@@ -91,11 +83,15 @@ fn out_of_bounds(random: &mut Random, draft: &mut Draft) {
         }
     } else if !draft.sums.is_empty() {
         let index = random.index(&draft.sums);
-        let (items, polys) = draft.sum_bounds(draft.sums[index].kind);
+        let (items, polys) = match draft.sums[index].kind {
+            'B' => (draft.basis, draft.gens),
+            'G' => (draft.gens, draft.basis),
+            _ => (99_998, draft.basis),
+        };
         let sum = &mut draft.sums[index];
         match random.below(5) {
             0 => sum.coef = bad_coef,
-            1 => sum.item = *random.pick(&[0, (items + 1).min(99_999)]),
+            1 => sum.item = *random.pick(&[0, items + 1]),
             2 => sum.of = *random.pick(&[0, polys, polys + 1, 99_999]),
             3 => sum.left = bad_word(random),
             _ => sum.right = bad_word(random),
@@ -164,11 +160,12 @@ fn exchange(random: &mut Random, draft: &mut Draft) {
     draft.terms.iter_mut().filter(|term| term.kind == 'B').for_each(|term| term.item = exchanged(term.item));
     for sum in &mut draft.sums {
         match sum.kind {
-            'B' | 'C' => sum.item = exchanged(sum.item),
+            'B' => sum.item = exchanged(sum.item),
             _ => sum.of = exchanged(sum.of),
         }
     }
-    draft.sort_terms();
+    // Terms of one item keep their order.
+    draft.terms.sort_by_key(|term| (term.kind == 'B', term.item));
     draft.sort_sums();
 }
 

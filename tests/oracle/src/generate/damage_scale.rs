@@ -1,7 +1,7 @@
 //! Damage about leading coefficients: a polynomial is multiplied where a sum is not, or a sum where nothing else is.
 
 use crate::coefficients::{inverse, is_field, times};
-use crate::generate::draft::{Draft, SUM_KINDS};
+use crate::generate::draft::Draft;
 use crate::generate::random::Random;
 use crate::generate::scale::{scale_polynomial, scale_sums};
 use crate::list::list;
@@ -30,7 +30,7 @@ pub fn scale_without(random: &mut Random, draft: &mut Draft, left_out: char) {
     let item = random.between(1, draft.basis);
     let factor = factor(random, draft.p);
     scale_polynomial(draft, item, factor);
-    for kind in SUM_KINDS.chars().filter(|kind| *kind != left_out) {
+    for kind in ['B', 'G', 'O'].into_iter().filter(|kind| *kind != left_out) {
         scale_sums(draft, kind, item, factor);
     }
 }

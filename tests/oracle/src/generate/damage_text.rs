@@ -3,13 +3,13 @@
 use crate::generate::random::Random;
 
 /// Bytes that stand in packages, and some that never do.
-const BYTES: &[u8] = b"  \n\n--00112345679abcyzGBOCHAZgo{`+.\t\r\x00\x7f\x80\xff";
+const BYTES: &[u8] = b"  \n\n--00112345679abcyzGBOAZgo{`+.\t\r\x00\x7f\x80\xff";
 
 /// Fields at the edges of number and word form and of the bounds, parted by `|`.
 const FIELDS: &str = "|-|--|a-|0|1|2|3|6|7|8|9|00|01|+1|-1|24|25|26|27|32|33|64|65|127|128|255|256|257|512|\
     996|997|63001|65520|65521|65522|65535|65536|65537|99999|100000|4294967297|18446744073709551617|\
     a|b|c|z|A|aA|aa|ab|ba|a1|{|aaaaaaaaaaaaaaaaaaaaaaaa|aaaaaaaaaaaaaaaaaaaaaaaaa|bbbbbbbbbbbbbbbbbbbbbbbb|\
-    bbbbbbbbbbbbbbbbbbbbbbbbb|G|B|O|C|H|g|GB|kind|others|coef word|1 -";
+    bbbbbbbbbbbbbbbbbbbbbbbbb|G|B|O|g|GB|kind|coef word|1 -";
 
 /// One to three damages.
 pub fn damage(random: &mut Random, text: &[u8]) -> Vec<u8> {

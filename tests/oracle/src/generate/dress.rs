@@ -40,10 +40,11 @@ fn split(random: &mut Random, draft: &mut Draft) {
 fn cancel(random: &mut Random, draft: &mut Draft) {
     let basis = draft.polys('B');
     let list = list(&basis);
-    let kind = *random.pick(&draft.sum_kinds());
+    let kind = *random.pick(&['B', 'G', 'O']);
     let (items, polys) = match kind {
-        'O' => (list.len() as u64, draft.basis),
-        _ => draft.sum_bounds(kind),
+        'B' => (draft.basis, draft.gens),
+        'G' => (draft.gens, draft.basis),
+        _ => (list.len() as u64, draft.basis),
     };
     if items == 0 || polys == 0 {
         return;

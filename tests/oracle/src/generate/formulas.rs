@@ -28,9 +28,7 @@ impl Ground {
         }
         let basis = draft.polys('B');
         let leads = basis.iter().filter_map(lead).map(|(word, _)| word.clone()).collect();
-        // Members are sums over the relations of either house.
-        let relations = [draft.polys('G'), draft.polys('H')].concat();
-        Ground { p: draft.p, letters, alphabet, relations, leads }
+        Ground { p: draft.p, letters, alphabet, relations: draft.polys('G'), leads }
     }
 
     /// A word of up to `longest` letters that often has leading words inside.

@@ -4,7 +4,6 @@ use crate::coefficients::negative;
 use crate::generate::certify::certified;
 use crate::generate::draft::{Draft, Sum};
 use crate::generate::families::own_basis;
-use crate::generate::house::copied;
 use crate::generate::random::Random;
 use crate::poly::{add_term, Poly};
 use crate::word::Word;
@@ -52,52 +51,31 @@ pub fn meeting_formula(random: &mut Random, p: u64, terms: u64) -> Poly {
     f
 }
 
-/// What a growing sum is for: a basis polynomial over the first house or the second, a relation of the first or the
-/// second, an overlap or an inclusion.
+/// What a growing sum is for: a basis polynomial, a relation, an overlap or an inclusion.
 #[derive(Clone, Copy, Debug, PartialEq)]
 pub enum Target {
     Basis,
-    OtherBasis,
     Relation,
-    OtherRelation,
     Overlap,
     Inclusion,
 }
 
-pub const TARGETS: [Target; 6] = [
-    Target::Basis,
-    Target::OtherBasis,
-    Target::Relation,
-    Target::OtherRelation,
-    Target::Overlap,
-    Target::Inclusion,
-];
+pub const TARGETS: [Target; 4] = [Target::Basis, Target::Relation, Target::Overlap, Target::Inclusion];
 
 impl Target {
     /// Kind and item of the sum in a package of `growing_sum`. There are 16 overlaps before the inclusion.
     fn sum(self) -> (char, u64) {
         match self {
             Target::Basis => ('B', 3),
-            Target::OtherBasis => ('C', 3),
             Target::Relation => ('G', 4),
-            Target::OtherRelation => ('H', 4),
             Target::Overlap => ('O', 1),
             Target::Inclusion => ('O', 17),
         }
     }
 
-    fn of_second_house(self) -> bool {
-        matches!(self, Target::OtherBasis | Target::OtherRelation)
-    }
-
-    /// Whether a leading word stands there twice: for an inclusion, and with two houses.
-    fn untrimmed(self) -> bool {
-        self == Target::Inclusion || self.of_second_house()
-    }
-
     /// How many entries the list of such a package has.
     pub fn entries(self) -> u64 {
-        if self.untrimmed() {
+        if self == Target::Inclusion {
             17
         } else {
             4
@@ -117,26 +95,22 @@ pub enum Lines {
 ///
 /// The basis polynomials 1 with leading word `ac` and 48 terms, and 2 with leading word `ad` and as many terms
 /// as are wanted, overlap nothing. 3 is the monomial `bbbbb`: it overlaps itself, the differences are zero,
-/// and the overlap words are longer than any product here. For an inclusion it stands there again as 4, and also with
-/// two houses, the second of which is as the first.
+/// and the overlap words are longer than any product here. For an inclusion it stands there again as 4.
 pub fn growing_sum(random: &mut Random, p: u64, target: Target, top: usize, order: Lines) -> Draft {
     let none = Word::empty();
     // Target minus sum begins with the terms of the target: the zero relation and the difference have none,
     // and the basis polynomial 3 has one.
-    let begin = usize::from(matches!(target, Target::Basis | Target::OtherBasis));
+    let begin = usize::from(target == Target::Basis);
     let big = spread(random, p, "ac", 48);
     let small = spread(random, p, "ad", top - 480 - begin);
     let single = Poly::from([(Word::new("bbbbb"), 1)]);
     let relations = [big, small, single, Poly::new()];
-    let numbers: &[u64] = if target.untrimmed() { &[1, 2, 3, 3] } else { &[1, 2, 3] };
+    let numbers: &[u64] = if target == Target::Inclusion { &[1, 2, 3, 3] } else { &[1, 2, 3] };
     let basis: Vec<Poly> = numbers.iter().map(|of| relations[*of as usize - 1].clone()).collect();
     let sums: Vec<_> =
         numbers.iter().map(|of| [((none.clone(), *of, none.clone()), 1)].into_iter().collect()).collect();
     let mut draft = certified(p, 26, &relations, &basis, &sums).expect("no difference that is not zero");
-    if target.of_second_house() {
-        draft = copied(&draft).expect("four relations");
-    }
-    // B 3 and C 3 are the sum of their own line and of lines that cancel, the others of such lines alone.
+    // B 3 is the sum of its own line and of lines that cancel, the others of such lines alone.
     let (kind, item) = target.sum();
     let mut lines = Vec::new();
     for of in [1; 10].into_iter().chain([2]) {

@@ -1,4 +1,4 @@
-//! A polynomial with a sum that it is: of the basis over relations, or a relation over the basis.
+//! A polynomial with its sum over the relations.
 
 use crate::coefficients::{inverse, times};
 use crate::generate::certify::{add_combination, Combination};
@@ -17,22 +17,17 @@ impl Known {
         Known { poly: Poly::new(), sum: Combination::new() }
     }
 
-    /// Polynomial number `of` of those that sums are over.
-    pub fn number(f: &Poly, of: u64) -> Known {
+    /// Relation number `of`.
+    pub fn relation(f: &Poly, of: u64) -> Known {
         Known { poly: f.clone(), sum: Combination::from([((Word::empty(), of, Word::empty()), 1)]) }
     }
 
     /// The basis polynomials of a draft, each with its B sum.
     pub fn basis(draft: &Draft) -> Vec<Known> {
-        Known::of(draft, 'B')
-    }
-
-    /// The polynomials of a kind, each with its sum of the same kind.
-    pub fn of(draft: &Draft, kind: char) -> Vec<Known> {
-        let polys = draft.polys(kind).into_iter().zip(1..);
+        let polys = draft.polys('B').into_iter().zip(1..);
         let known = |(poly, item): (Poly, u64)| {
             let mut sum = Combination::new();
-            for line in draft.sums.iter().filter(|line| (line.kind, line.item) == (kind, item)) {
+            for line in draft.sums.iter().filter(|line| (line.kind, line.item) == ('B', item)) {
                 let one = Combination::from([((line.left.clone(), line.of, line.right.clone()), line.coef)]);
                 add_combination(draft.p, &mut sum, 1, &Word::empty(), &one, &Word::empty());
             }

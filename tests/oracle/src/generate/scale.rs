@@ -1,7 +1,7 @@
 //! Basis polynomials multiplied by elements of the field, so that they lead with other coefficients than 1.
 
 use crate::coefficients::{inverse, times};
-use crate::generate::draft::{Draft, SUM_KINDS};
+use crate::generate::draft::Draft;
 use crate::generate::random::Random;
 use crate::package::PACKAGE_BYTES;
 
@@ -10,7 +10,7 @@ use crate::package::PACKAGE_BYTES;
 /// divided by its leading coefficient: a valid package stays valid.
 pub fn scale(draft: &mut Draft, item: u64, factor: u64) {
     scale_polynomial(draft, item, factor);
-    for kind in SUM_KINDS.chars() {
+    for kind in ['B', 'G', 'O'] {
         scale_sums(draft, kind, item, factor);
     }
 }
@@ -22,15 +22,14 @@ pub fn scale_polynomial(draft: &mut Draft, item: u64, factor: u64) {
     own.for_each(|term| term.coef = times(p, term.coef, factor));
 }
 
-/// Multiplies the sum lines of one kind as basis polynomial `item` times the factor wants it: in B and C sums those
-/// of the item, in G, H and O sums those that use it.
+/// Multiplies the sum lines of one kind as basis polynomial `item` times the factor wants it: in B sums those of
+/// the item, in G and O sums those that use it.
 pub fn scale_sums(draft: &mut Draft, kind: char, item: u64, factor: u64) {
     let p = draft.p;
-    let of_basis = ['B', 'C'].contains(&kind);
     for sum in draft.sums.iter_mut().filter(|sum| sum.kind == kind) {
-        if of_basis && sum.item == item {
+        if kind == 'B' && sum.item == item {
             sum.coef = times(p, sum.coef, factor);
-        } else if !of_basis && sum.of == item {
+        } else if kind != 'B' && sum.of == item {
             sum.coef = times(p, sum.coef, inverse(p, factor));
         }
     }

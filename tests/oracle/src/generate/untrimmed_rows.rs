@@ -257,7 +257,7 @@ mod tests {
     #[test]
     fn untrimmed_e_is_e_with_more() {
         let [e, more] = [E.to_string(), untrimmed_e()].map(|text| read(text.as_bytes()).expect("reads"));
-        assert_eq!((&more.basis[..2], &more.first.relations), (&e.basis[..], &e.first.relations));
+        assert_eq!((&more.basis[..2], &more.relations), (&e.basis[..], &e.relations));
         assert_eq!(more.basis[3], e.basis[1]);
         assert_eq!(turned(&untrimmed_e(), &[1, 2, 3, 4]), untrimmed_e());
     }

@@ -4,7 +4,6 @@ use crate::generate::completion::{complete, Keep};
 use crate::generate::draft::Draft;
 use crate::generate::dress::dress;
 use crate::generate::families;
-use crate::generate::houses::house_some;
 use crate::generate::random::Random;
 use crate::generate::relations::{alphabet, field, setting};
 use crate::generate::scale::scale_some;
@@ -21,11 +20,9 @@ pub fn valid(random: &mut Random) -> Draft {
     draft
 }
 
-/// A valid package whose basis polynomials all lead with 1. About half of them have leading words inside one another,
-/// and about half have two houses.
+/// A valid package whose basis polynomials all lead with 1. About half of them have leading words inside one another.
 pub fn unscaled(random: &mut Random) -> Draft {
     let mut draft = if random.one_in(3) { trimmed(random) } else { trimmed_or_not(random) };
-    house_some(random, &mut draft);
     dress(random, &mut draft);
     if random.one_in(4) {
         draft = stretched(random, &draft).unwrap_or(draft);

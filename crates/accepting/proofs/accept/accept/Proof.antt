@@ -1,5 +1,5 @@
 -- `accept` reads, judges the basis, fills the table, and checks the package that the table holds.
-use mathlib.Core.Path.{◌≡◌, sym}
+use mathlib.Core.Path.{◌≡◌}
 use native.Mathlib.Omega.{arith}
 use lib.ListN.{length}
 use Rattle.package.specs.Held.{seen_all}
@@ -17,7 +17,7 @@ abbrev judged : tie.After-tabulate → tie.After-judge-basis
 judged b = b.before.before.before.before.before.before.before.before.before.before
 
 abbrev whole : tie.After-judge-basis → tie.After-r2
-whole b = b.before.before.before.before.before.before.before.before.before.before.before
+whole b = b.before.before.before.before.before.before.before.before.before.before
 
 abbrev was_read : tie.After-r2 → tie.After-read-package
 was_read b = b.before.before.before.before.before.before.before.before
@@ -37,7 +37,7 @@ is_read b =
     let lc : length w.last.1.1.1.0 ≡ 1024 = omega (arith, w.kept.1.1.1.0) in
     let lo : length w.last.1.1.1.1.0 ≡ 1024 = omega (arith, w.kept.1.1.1.1.0) in
     let ll : length w.last.1.1.1.1.1.0 ≡ 1024 = omega (arith, w.kept.1.1.1.1.1.0) in
-    let lf : length w.last.1.1.1.1.1.1.0 ≡ 130 = omega (arith, w.kept.1.1.1.1.1.1.0) in
+    let lf : length w.last.1.1.1.1.1.1.0 ≡ 98 = omega (arith, w.kept.1.1.1.1.1.1.0) in
     answered _ w.last.1.0 w.last.1.1.0 _ _ _ _ _ _ _ _ _ v.1 t.0 t.1.0 t.1.1.0 t.1.1.1.0 t.1.1.1.1 lc lo ll lf
 
 -- the table that was filled holds it
@@ -52,11 +52,9 @@ holds f =
       prime = e.1.0.0;
       letters = e.1.0.1;
       gens = e.1.1.0.0;
-      others-count = e.1.1.0.1;
-      count = e.1.1.0.2;
+      count = e.1.1.0.1;
       relations = e.1.1.1.0;
-      others = e.1.1.1.1.0;
-      basis = e.1.1.1.1.1;
+      basis = e.1.1.1.1;
       sound = basis_sound _ _ (judged f).judge-basis.ensures.0 f.before.before.before.before.before.before.enum_told.given.1;
     }
 
@@ -102,17 +100,11 @@ slice-aggregate-judge-basis-4 c = search rules
 cast-judge-basis : tie.Need-overflow-cast-judge-basis
 cast-judge-basis c = search rules
 
-cast-judge-basis-2 : tie.Need-overflow-cast-judge-basis-2
-cast-judge-basis-2 c = search rules
-
 add-judge-basis : tie.Need-overflow-add-judge-basis
 add-judge-basis c = search rules
 
-add-judge-basis-2 : tie.Need-overflow-add-judge-basis-2
-add-judge-basis-2 c = search rules
-
-cast-judge-basis-3 : tie.Need-overflow-cast-judge-basis-3
-cast-judge-basis-3 c = search rules
+cast-judge-basis-2 : tie.Need-overflow-cast-judge-basis-2
+cast-judge-basis-2 c = search rules
 
 slice-aggregate-judge-basis-5 : tie.Need-slice-aggregate-judge-basis-5
 slice-aggregate-judge-basis-5 c = search rules
@@ -122,8 +114,8 @@ slice-aggregate-judge-basis-6 c = search rules
 
 judge-basis-requires : tie.Need-judge-basis-requires
 judge-basis-requires c κs =
-    let r = is_read c.before.before.before.before.before.before.before.before.before.before in
-    (record { p = _; m = _; terms = r.lies.terms; runs = r.lies.basis-runs }, (omega (arith, r.lies.counts.basis), omega arith))
+    let r = is_read c.before.before.before.before.before.before.before.before.before in
+    (record { p = _; m = _; terms = r.lies.terms; runs = r.lies.basis-runs }, (omega arith, omega arith))
 
 enum-known-b : tie.Need-enum-known-b
 enum-known-b c = search rules
@@ -138,9 +130,7 @@ enum_told : tie.Need-enum-told
 enum_told c = search rules
 
 slice-aggregate-tabulate : tie.Need-slice-aggregate-tabulate
-slice-aggregate-tabulate c =
-    let j = c.before.before.before.before.before.before in
-    sym (was_read (whole j)).read-package.auto.1.1.1.0
+slice-aggregate-tabulate c = search rules
 
 slice-aggregate-tabulate-2 : tie.Need-slice-aggregate-tabulate-2
 slice-aggregate-tabulate-2 c = search rules
@@ -216,10 +206,8 @@ accept-spec =
     slice-aggregate-judge-basis-3
     slice-aggregate-judge-basis-4
     cast-judge-basis
-    cast-judge-basis-2
     add-judge-basis
-    add-judge-basis-2
-    cast-judge-basis-3
+    cast-judge-basis-2
     slice-aggregate-judge-basis-5
     slice-aggregate-judge-basis-6
     judge-basis-requires

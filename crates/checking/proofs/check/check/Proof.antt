@@ -2,7 +2,6 @@
 use Prim.Native.Nat.{◌-◌}
 use native.Mathlib.Omega.{arith}
 use Rattle.working.specs.Working.{Arranged}
-use Rattle.package.specs.Names.{sum_o}
 use Rattle.packedterms.specs.Formula.{Room}
 use Rattle.checking.proofs.KindsJudging.{KindsDone, kinds_start, kinds_refused, kinds_next, kinds_behind, kinds_end}
 use borrow.Author.Rules.{rules}
@@ -14,7 +13,7 @@ invariant-loop t heads headlens bytes from first c₀ l₀ w₀ o₀ at₀ line�
     Arranged o × Room c l w o × KindsDone t bytes from first at line kind
 
 abbrev decreases-loop : tie.decreases-loop
-decreases-loop t heads headlens bytes from first c₀ l₀ w₀ o₀ at₀ line₀ kind₀ c l w o at line kind = sum_o - kind
+decreases-loop t heads headlens bytes from first c₀ l₀ w₀ o₀ at₀ line₀ kind₀ c l w o at line kind = 3 - kind
 
 -- from a kind's answer, and from that on the pairs, back to the turn's top, and to the start
 abbrev top : tie.After-judge-sums invariant-loop decreases-loop → tie.At-loop invariant-loop decreases-loop
@@ -74,7 +73,7 @@ loop-again c =
     let b = c.before.before.before in
     let e = b.judge-sums.ensures in
     let more = b.before.before.before.before.before.loop-test.true in
-    (e.1.1.0, e.1.1.1, kinds_next _ _ _ _ _ _ _ (top b).loop.invariant.2 more _ e.0 (begun (top b)).pre.0.0 _ _ c.before.r2.given.1 e.1.0)
+    (e.1.1.0, e.1.1.1, kinds_next _ _ _ _ _ _ _ (top b).loop.invariant.2 more _ e.0 _ _ c.before.r2.given.1 e.1.0)
 
 judge-laps-requires : tie.Need-judge-laps-requires invariant-loop decreases-loop
 judge-laps-requires c κs =

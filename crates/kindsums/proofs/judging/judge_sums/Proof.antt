@@ -33,7 +33,7 @@ invariant-loop t kind bytes from first c₀ l₀ w₀ o₀ k none left₀ right�
     × (length right ≡ 6)
     × (length buf ≡ 9)
     × Working t c l w o n
-    × LinesDone (head_in t) (side_in t kind).number kind (field_in t) (order_in t) (family (side_in t kind).sources) bytes (sums_at bytes from first)
+    × LinesDone (head_in t) (side_in t kind).number kind (field_in t) (order_in t) (family (side_in t kind).others) bytes (sums_at bytes from first)
     (side_in t kind).targets at line g (formula t c l w o n) s
 
 abbrev decreases-loop : tie.decreases-loop
@@ -48,7 +48,7 @@ invariant-items t kind bytes from first c₀ l₀ w₀ o₀ k none left₀ right
     × (length buf ≡ 9)
     × Arranged o
     × Room c l w o
-    × ItemsDone (head_in t) (side_in t kind).number kind (field_in t) (order_in t) (family (side_in t kind).sources) bytes (sums_at bytes from first)
+    × ItemsDone (head_in t) (side_in t kind).number kind (field_in t) (order_in t) (family (side_in t kind).others) bytes (sums_at bytes from first)
     (side_in t kind).targets at line g s answer
 
 abbrev decreases-items : tie.decreases-items
@@ -133,7 +133,6 @@ add-target c =
     let l = x.if1.true in
     let q = (items k).target_in ((top x).items.g + 1) (omega arith) in
     let g = s.pre.0.gens in
-    let o = s.pre.0.others in
     let b = s.pre.0.basis in
     record { fits = omega arith }
 
@@ -186,9 +185,8 @@ add-j c =
     let m = turn x in
     let s = opened m in
     let fits = next_fits _ _ _ _ _ _ _ m.loop.inv.5.next (is_next x) in
-    let q = (items (kinds (top (item m)))).source_in m.loop.s.of fits.most in
+    let q = (items (kinds (top (item m)))).other_in m.loop.s.of fits.most in
     let g = s.pre.0.gens in
-    let o = s.pre.0.others in
     let b = s.pre.0.basis in
     record { fits = omega arith }
 
@@ -203,8 +201,8 @@ take-item-requires c κs =
     let k = kinds (top (item m)) in
     let some = fits.some in
     let few = i.0 in
-    let first : 1 ≤ k.kind-numbers.result.sources + m.loop.s.of = omega arith in
-    let most = (items k).source_in m.loop.s.of fits.most in
+    let first : 1 ≤ k.kind-numbers.result.others + m.loop.s.of = omega arith in
+    let most = (items k).other_in m.loop.s.of fits.most in
     let fit = short-fits _ (opened m).pre.0 _ _ _ l.short.few r.short.few first most in
     (((opened m).pre.0, fits.coef, first, most, omega arith, omega arith, i.3), ((l.short.six, r.short.six, fit), (i.4, lower_none _ _ _ _ _ _)))
 

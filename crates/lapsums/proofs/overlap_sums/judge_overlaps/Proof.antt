@@ -70,7 +70,7 @@ decreases-items t heads headlens bytes from first c₀ l₀ w₀ o₀ count base
     length (seen_pairs (laid_words heads headlens bytes count) f)
 
 -- the places of a turn, from the last back to the first
-abbrev based : tie.At-items invariant-loop decreases-loop invariant-items decreases-items → tie.After-base-in invariant-loop decreases-loop invariant-items decreases-items
+abbrev based : tie.At-items invariant-loop decreases-loop invariant-items decreases-items → tie.After-gens-in invariant-loop decreases-loop invariant-items decreases-items
 based m = m.before.before.before
 
 abbrev counted : tie.At-items invariant-loop decreases-loop invariant-items decreases-items → tie.After-basis-in invariant-loop decreases-loop invariant-items decreases-items
@@ -154,8 +154,8 @@ tested u a e =
 basis-in-requires : tie.Need-basis-in-requires invariant-loop decreases-loop invariant-items decreases-items
 basis-in-requires c κs = search rules
 
-base-in-requires : tie.Need-base-in-requires invariant-loop decreases-loop invariant-items decreases-items
-base-in-requires c κs = search rules
+gens-in-requires : tie.Need-gens-in-requires invariant-loop decreases-loop invariant-items decreases-items
+gens-in-requires c κs = search rules
 
 line-at-requires : tie.Need-line-at-requires invariant-loop decreases-loop invariant-items decreases-items
 line-at-requires c κs = (start c.before).pre.1.0.low
@@ -238,7 +238,7 @@ add-j c =
     let x = entered (packed c.before.before) in
     let m = turn x in
     let s = opened m in
-    omega (arith, (based (outer m)).base-in.ensures, (names x).1, s.pre.0.0.gens, s.pre.0.0.others, s.pre.0.0.basis)
+    omega (arith, (based (outer m)).gens-in.ensures, (names x).1, s.pre.0.0.gens, s.pre.0.0.basis)
 
 take-item-requires : tie.Need-take-item-requires invariant-loop decreases-loop invariant-items decreases-items
 take-item-requires c κs =
@@ -249,14 +249,14 @@ take-item-requires c κs =
     let tabled = (opened m).pre.0.0 in
     let i = m.loop.inv in
     let most = i.0 in
-    let base = (based (outer m)).base-in.ensures in
+    let base = (based (outer m)).gens-in.ensures in
     let n = names x in
     let n₀ = n.0 in
     let n₁ = n.1 in
     let (l, r) = p.pack-sides.ensures in
     let small = line_small _ _ _ _ _ _ _ _ _ _ _ _ i.5 (ours x) in
-    let first : 1 ≤ (based (outer m)).base-in.result + m.loop.s.of = omega arith in
-    let last : (based (outer m)).base-in.result + m.loop.s.of ≤ items_in (opened m).args.t.now = omega arith in
+    let first : 1 ≤ (based (outer m)).gens-in.result + m.loop.s.of = omega arith in
+    let last : (based (outer m)).gens-in.result + m.loop.s.of ≤ items_in (opened m).args.t.now = omega arith in
     let fit = short-fits _ tabled _ _ _ l.short.few r.short.few first last in
     ((tabled, small, first, last, omega arith, omega arith, u.is-under.ensures.1), ((l.short.six, r.short.six, fit), (i.4, lower_none _ _ _ _ _ _)))
 
@@ -289,7 +289,7 @@ loop-again c =
     let (l, r) = p.pack-sides.ensures in
     let most = c.before.if3.false in
     let e = tested u true (not-false _ y.if2.left) in
-    let q = k.take-item.ensures.1.1 ∙ line_taken _ _ _ _ _ _ _ _ _ _ _ _ i.5 (ours x) _ _ _ l r _ (based (outer m)).base-in.ensures in (
+    let q = k.take-item.ensures.1.1 ∙ line_taken _ _ _ _ _ _ _ _ _ _ _ _ i.5 (ours x) _ _ _ l r _ (based (outer m)).gens-in.ensures in (
       most,
       l.short.six.six,
       r.short.six.six,
@@ -353,7 +353,7 @@ returns-3 c =
     let i = m.loop.inv in
     let (l, r) = p.pack-sides.ensures in
     let e = tested u true (not-false _ y.if2.left) in
-    let q = k.take-item.ensures.1.1 ∙ line_taken _ _ _ _ _ _ _ _ _ _ _ _ i.5 (ours x) _ _ _ l r _ (based (outer m)).base-in.ensures in
+    let q = k.take-item.ensures.1.1 ∙ line_taken _ _ _ _ _ _ _ _ _ _ _ _ i.5 (ours x) _ _ _ l r _ (based (outer m)).gens-in.ensures in
     (lap_over _ _ _ _ _ _ _ _ _ _ _ _ i.5 (ours x) e _ q _ (terms-length _ 0 _) c.if3.true, (tt, k.take-item.ensures.1.0.holds.room))
 
 returns-4 : tie.Need-returns-4 invariant-loop decreases-loop invariant-items decreases-items
@@ -371,7 +371,7 @@ judge-overlaps-spec =
     invariant-items
     decreases-items
     basis-in-requires
-    base-in-requires
+    gens-in-requires
     line-at-requires
     first-pair-requires
     items-holds

@@ -2,7 +2,7 @@
 use mathlib.Core.Path.{◌≡◌, ◌∙◌}
 use Prim.Native.Nat.{◌+◌, ◌-◌, ◌*◌, ◌≤◌}
 use native.Mathlib.Omega.{arith}
-use Rattle.table.specs.Table.{base_in, basis_count_in}
+use Rattle.table.specs.Table.{gens_in, basis_count_in}
 use Rattle.leads.specs.CodeIndex.{CodesHold}
 use Rattle.leads.specs.LeadCodes.{lead_codes_in}
 use Rattle.leads.proofs.CodeMarks.{codes_blank, pairs_more, codes-done}
@@ -13,7 +13,7 @@ use Rattle.leads.proofs.indexing.index_leads.Tie as tie
 
 abbrev invariant-loop : tie.invariant-loop
 invariant-loop t index₀ n base g₀ index g =
-    (g ≤ n) × (n ≡ basis_count_in t) × (base ≡ base_in t + 1) × CodesHold (lead_codes_in t) g (g * 25) index
+    (g ≤ n) × (n ≡ basis_count_in t) × (base ≡ gens_in t + 1) × CodesHold (lead_codes_in t) g (g * 25) index
 
 abbrev decreases-loop : tie.decreases-loop
 decreases-loop t index₀ n base g₀ index g = n - g
@@ -21,8 +21,8 @@ decreases-loop t index₀ n base g₀ index g = n - g
 basis-in-requires : tie.Need-basis-in-requires invariant-loop decreases-loop
 basis-in-requires c κs = search rules
 
-base-in-requires : tie.Need-base-in-requires invariant-loop decreases-loop
-base-in-requires c κs = search rules
+gens-in-requires : tie.Need-gens-in-requires invariant-loop decreases-loop
+gens-in-requires c κs = search rules
 
 add-base : tie.Need-overflow-add-base invariant-loop decreases-loop
 add-base c =
@@ -94,7 +94,7 @@ returns c =
     let m = c.before.loop in
     let z = c.before.before.before.before in
     let t = z.args.t.now in
-    let e = lead-codes-length t (base_in t + 1) (basis_count_in t) in
+    let e = lead-codes-length t (gens_in t + 1) (basis_count_in t) in
     codes-done m.g (omega (arith, m.invariant.0, m.invariant.1, c.loop-test.false, e)) (leads_indexable t z.requires.0) m.invariant.3
 
 pub index-leads-spec : {M : Type 1} → statement M
@@ -104,7 +104,7 @@ index-leads-spec =
     invariant-loop
     decreases-loop
     basis-in-requires
-    base-in-requires
+    gens-in-requires
     add-base
     loop-holds
     add-first-in

@@ -1,6 +1,7 @@
 -- `read_head` reads what `head_form` gives, field by field.
+use mathlib.Core.Path.{sym, ◌∙◌}
 use borrow.Author.Rules.{rules}
-use Rattle.package.proofs.CountsLine.{head-p, head-letters, head-gens, head-last, head-whole, seen_no_last, seen_last}
+use Rattle.package.proofs.CountsLine.{head-p, head-letters, head-gens, head-basis, head-whole}
 use Rattle.package.specs.Held.{seen_head}
 use Rattle.fieldreading.proofs.FieldReading.{seen_none, seen-some, next_le}
 use Rattle.linetests.proofs.counts.read_head.Statement.{statement}
@@ -17,7 +18,7 @@ enum_told c = search rules
 
 returns : tie.Need-returns
 unfolding seen_head
-returns c = head-p _ _ (seen_none _ _ _ c.enum_told.given.1 c.before.before.inner-number.ensures.0)
+returns c = head-p _ (seen_none _ _ _ c.enum_told.given.1 c.before.before.inner-number.ensures.0)
 
 inner-number-requires-2 : tie.Need-inner-number-requires-2
 inner-number-requires-2 c κs = next_le _ _ _ _ c.before.p.given.1 c.before.before.before.inner-number.ensures.1
@@ -34,7 +35,7 @@ returns-2 c =
     let c2 = c.before.before in
     let c4 = c2.before.before in
     let c6 = c4.before.before in
-    head-letters _ _ _ _ (seen-some _ _ _ _ _ c4.p.given.1 c6.inner-number.ensures.0) (seen_none _ _ _ c.enum-told2.given.1 c2.inner-number2.ensures.0)
+    head-letters _ _ _ (seen-some _ _ _ _ _ c4.p.given.1 c6.inner-number.ensures.0) (seen_none _ _ _ c.enum-told2.given.1 c2.inner-number2.ensures.0)
 
 inner-number-requires-3 : tie.Need-inner-number-requires-3
 inner-number-requires-3 c κs = next_le _ _ _ _ c.before.letters.given.1 c.before.before.before.inner-number2.ensures.1
@@ -53,14 +54,14 @@ returns-3 c =
     let c6 = c4.before.before in
     let c8 = c6.before.before in
     let c10 = c8.before.before in
-    head-gens _ _ _ _ (seen-some _ _ _ _ _ c8.p.given.1 c10.inner-number.ensures.0) _ _
+    head-gens _ _ _ (seen-some _ _ _ _ _ c8.p.given.1 c10.inner-number.ensures.0) _ _
     (seen-some _ _ _ _ _ c4.letters.given.1 c6.inner-number2.ensures.0) (seen_none _ _ _ c.enum-told3.given.1 c2.inner-number3.ensures.0)
 
-read-last-requires : tie.Need-read-last-requires
-read-last-requires c κs = next_le _ _ _ _ c.before.gens.given.1 c.before.before.before.inner-number3.ensures.1
+last-number-requires : tie.Need-last-number-requires
+last-number-requires c κs = next_le _ _ _ _ c.before.gens.given.1 c.before.before.before.inner-number3.ensures.1
 
-enum-known-others : tie.Need-enum-known-others
-enum-known-others c = search rules
+enum-known-basis : tie.Need-enum-known-basis
+enum-known-basis c = search rules
 
 enum-told-4 : tie.Need-enum-told-4
 enum-told-4 c = search rules
@@ -75,9 +76,9 @@ returns-4 c =
     let c10 = c8.before.before in
     let c12 = c10.before.before in
     let c14 = c12.before.before in
-    head-last _ _ _ _ (seen-some _ _ _ _ _ c12.p.given.1 c14.inner-number.ensures.0) _ _
+    head-basis _ _ _ (seen-some _ _ _ _ _ c12.p.given.1 c14.inner-number.ensures.0) _ _
     (seen-some _ _ _ _ _ c8.letters.given.1 c10.inner-number2.ensures.0) _ _
-    (seen-some _ _ _ _ _ c4.gens.given.1 c6.inner-number3.ensures.0) (seen_no_last _ _ c.enum-told4.given.1 c2.read-last.ensures)
+    (seen-some _ _ _ _ _ c4.gens.given.1 c6.inner-number3.ensures.0) (sym c2.last-number.ensures ∙ c.enum-told4.given.1)
 
 returns-5 : tie.Need-returns-5
 unfolding seen_head
@@ -89,9 +90,9 @@ returns-5 c =
     let c11 = c9.before.before in
     let c13 = c11.before.before in
     let c15 = c13.before.before in
-    head-whole _ _ _ _ (seen-some _ _ _ _ _ c13.p.given.1 c15.inner-number.ensures.0) _ _
+    head-whole _ _ _ (seen-some _ _ _ _ _ c13.p.given.1 c15.inner-number.ensures.0) _ _
     (seen-some _ _ _ _ _ c9.letters.given.1 c11.inner-number2.ensures.0) _ _
-    (seen-some _ _ _ _ _ c5.gens.given.1 c7.inner-number3.ensures.0) _ _ (seen_last _ _ _ _ c.before.others.given.1 c3.read-last.ensures)
+    (seen-some _ _ _ _ _ c5.gens.given.1 c7.inner-number3.ensures.0) _ (sym c3.last-number.ensures ∙ c.before.basis.given.1)
 
 pub read-head-spec : {M : Type 1} → statement M
 read-head-spec =
@@ -109,8 +110,8 @@ read-head-spec =
     enum-known-gens
     enum-told-3
     returns-3
-    read-last-requires
-    enum-known-others
+    last-number-requires
+    enum-known-basis
     enum-told-4
     returns-4
     returns-5)

@@ -2,7 +2,7 @@
 use mathlib.Core.Path.{◌≡◌, refl, ◌∙◌, ap}
 use Prim.Native.Nat.{ℕ, ◌+◌, ◌-◌, ◌*◌}
 use native.Mathlib.Omega.{arith}
-use Rattle.table.specs.Table.{base_in, first_in, size_in}
+use Rattle.table.specs.Table.{gens_in, first_in, size_in}
 use Rattle.packedsteps.proofs.CutWords.{Cutting, cutting, cut_made}
 use borrow.Author.Rules.{rules}
 use Rattle.packedsteps.proofs.cutting.cut.Statement.{statement}
@@ -13,13 +13,13 @@ numbers : (s : tie.Start) → Cutting s.args.t.now s.args.z s.args.i s.args.of
 numbers s = cutting s.args.t.now s.requires.0.0 s.args.z s.args.word.now s.requires.0.1 s.args.i s.args.of s.requires.1
 
 -- the size of the leading word
-lead_is : (x : tie.After-lead-size) → x.lead-size.result ≡ size_in x.before.before.args.t.now (first_in x.before.before.args.t.now (base_in x.before.before.args.t.now + x.before.before.args.of))
+lead_is : (x : tie.After-lead-size) → x.lead-size.result ≡ size_in x.before.before.args.t.now (first_in x.before.before.args.t.now (gens_in x.before.before.args.t.now + x.before.before.args.of))
 lead_is x =
     let s = x.before.before in
-    x.lead-size.ensures ∙ ap (λ (g : ℕ). size_in s.args.t.now (first_in s.args.t.now (g + s.args.of))) x.before.base-in.ensures
+    x.lead-size.ensures ∙ ap (λ (g : ℕ). size_in s.args.t.now (first_in s.args.t.now (g + s.args.of))) x.before.gens-in.ensures
 
-base-in-requires : tie.Need-base-in-requires
-base-in-requires c κs = search rules
+gens-in-requires : tie.Need-gens-in-requires
+gens-in-requires c κs = search rules
 
 add-item : tie.Need-overflow-add-item
 add-item c =
@@ -28,8 +28,7 @@ add-item c =
     let most = C.leading.most in
     let few = s.requires.0.0.basis in
     let some = s.requires.0.0.gens in
-    let others = s.requires.0.0.others in
-    let e = c.base-in.ensures in
+    let e = c.gens-in.ensures in
     record { fits = omega arith }
 
 lead-size-requires : tie.Need-lead-size-requires
@@ -40,10 +39,9 @@ lead-size-requires c κs =
     let most = C.leading.most in
     let few = T.basis in
     let some = T.gens in
-    let others = T.others in
     let all = T.terms in
     let inside = C.leading.inside in
-    rw c.base-in.ensures (omega arith, omega arith)
+    rw c.gens-in.ensures (omega arith, omega arith)
 
 left-part-requires : tie.Need-left-part-requires
 left-part-requires c κs =
@@ -91,14 +89,14 @@ returns c =
     let l = c.before.before.left-part.ensures in
     let r = rw (lead_is x) at c.right-part.ensures in
     cut_made a.t.now s.requires.0.0 a.z a.word.now s.requires.0.1 a.i a.of s.requires.1 _ _ _ _ _
-    (ap (λ (g : ℕ). g + a.of) x.before.base-in.ensures) refl (ap (λ (e : ℕ). a.z - e - 257 * a.i) (lead_is x))
+    (ap (λ (g : ℕ). g + a.of) x.before.gens-in.ensures) refl (ap (λ (e : ℕ). a.z - e - 257 * a.i) (lead_is x))
     l.0.0 l.0.1 l.1 r.0.0 r.0.1 r.1
 
 pub cut_spec : {M : Type 1} → statement M
 cut_spec =
     tie.close
     (tie.spec
-    base-in-requires
+    gens-in-requires
     add-item
     lead-size-requires
     left-part-requires

@@ -2,7 +2,7 @@
 use mathlib.Core.Path.{sym, ◌∙◌}
 use native.Mathlib.Omega.{arith}
 use borrow.Author.Tests.{not_true, not-false}
-use Rattle.package.proofs.CountsLine.{seen_no_head, seen-head, counts_fit_lem}
+use Rattle.package.proofs.CountsLine.{seen_no_head, seen-head, counts-bounds}
 use Rattle.package.proofs.Joining.{counts_missing, counts_wrong, counts_3, counts_4, counts-right}
 use Rattle.package.specs.Held.{seen_counts, CountsHeld}
 use borrow.Author.Rules.{rules}
@@ -14,7 +14,7 @@ find-requires c κs = search rules
 
 returns : tie.Need-returns
 unfolding seen_counts CountsHeld
-returns c = (counts_missing _ _ _ _ c.before.find.ensures.0 c.if1.true, tt)
+returns c = (counts_missing _ _ _ c.before.find.ensures.0 c.if1.true, tt)
 
 sub-read-head : tie.Need-overflow-sub-read-head
 sub-read-head c = search rules
@@ -39,7 +39,7 @@ unfolding seen_counts CountsHeld
 returns-2 c =
     let c2 = c.before.before in
     let c4 = c2.before.before in (
-      counts_wrong _ _ _ _ c4.before.find.ensures.0 c4.if1.false (seen_no_head _ _ c.enum_told.given.1 c2.read_head.ensures),
+      counts_wrong _ _ _ c4.before.find.ensures.0 c4.if1.false (seen_no_head _ _ c.enum_told.given.1 c2.read_head.ensures),
       tt,
     )
 
@@ -51,7 +51,7 @@ unfolding seen_counts CountsHeld
 returns-3 c =
     let k = c.before.before.before in
     let i = k.before.before.before.before in (
-      counts_3 _ _ _ _ i.before.find.ensures.0 i.if1.false _ (seen-head _ _ _ _ _ _ _ k.p.given.1 k.before.before.read_head.ensures)
+      counts_3 _ _ _ i.before.find.ensures.0 i.if1.false _ (seen-head _ _ _ _ _ _ k.p.given.1 k.before.before.read_head.ensures)
           (sym c.before.field-fits.ensures ∙ not_true _ c.if2.true),
       tt,
     )
@@ -65,7 +65,7 @@ returns-4 c =
     let p = c.before.before.before in
     let k = p.before.before in
     let i = k.before.before.before.before in (
-      counts_4 _ _ _ _ i.before.find.ensures.0 i.if1.false _ (seen-head _ _ _ _ _ _ _ k.p.given.1 k.before.before.read_head.ensures)
+      counts_4 _ _ _ i.before.find.ensures.0 i.if1.false _ (seen-head _ _ _ _ _ _ k.p.given.1 k.before.before.read_head.ensures)
           (sym p.field-fits.ensures ∙ not-false _ c.before.before.if2.false) (sym c.before.counts_fit_lem.ensures ∙ not_true _ c.if3.true),
       tt,
     )
@@ -80,9 +80,9 @@ returns-5 c =
     let k = p.before.before in
     let i = k.before.before.before.before in
     let f = sym c.before.counts_fit_lem.ensures ∙ not-false _ c.if3.false in (
-      counts-right _ _ _ _ i.before.find.ensures.0 i.if1.false _ (seen-head _ _ _ _ _ _ _ k.p.given.1 k.before.before.read_head.ensures)
+      counts-right _ _ _ i.before.find.ensures.0 i.if1.false _ (seen-head _ _ _ _ _ _ k.p.given.1 k.before.before.read_head.ensures)
           (sym p.field-fits.ensures ∙ not-false _ c.before.before.if2.false) f,
-      ((counts_fit_lem _ _ f).0, omega (arith, i.if1.false)),
+      (counts-bounds _ f, omega (arith, i.if1.false)),
     )
 
 pub read-counts-spec : {M : Type 1} → statement M

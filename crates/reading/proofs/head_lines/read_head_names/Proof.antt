@@ -1,31 +1,19 @@
--- `read_head_names` reads line 1 as `head_names_line` does, without a second house and with one.
+-- `read_head_names` reads a names line as `names_line` does.
 use mathlib.Core.Path.{sym, ◌∙◌}
 use native.Mathlib.Omega.{arith}
-use Rattle.package.proofs.Joining.{head_names_missing, head_names_one, head_names_two, head_names_other}
-use Rattle.package.specs.Held.{seen_head_names, HeadNamesHeld}
+use borrow.Author.Tests.{not_true, not-false}
+use Rattle.package.proofs.Joining.{names_missing, names_other, names_same}
+use Rattle.package.specs.Held.{seen_names, NamesHeld}
 use borrow.Author.Rules.{rules}
 use Rattle.reading.proofs.head_lines.read_head_names.Statement.{statement}
 use Rattle.reading.proofs.head_lines.read_head_names.Tie as tie
-
--- the line, found; and the tests that are passed
-abbrev found : tie.Else1 → tie.After-find
-found x = x.before
-
-abbrev line : tie.After-is-head-names → tie.Else1
-line x = x.before.before
-
-abbrev other : tie.After-is-two-house-names → tie.Else2
-other x = x.before.before
 
 find-requires : tie.Need-find-requires
 find-requires c κs = search rules
 
 returns : tie.Need-returns
-unfolding seen_head_names HeadNamesHeld
-returns c = (head_names_missing _ 0 _ c.before.find.ensures.0 c.if1.true, tt)
-
-add-next : tie.Need-overflow-add-next
-add-next c = search rules
+unfolding seen_names NamesHeld
+returns c = (names_missing _ _ _ 0 _ c.before.find.ensures.0 c.if1.true, tt)
 
 sub-is-head-names : tie.Need-overflow-sub-is-head-names
 sub-is-head-names c = search rules
@@ -40,43 +28,20 @@ is-head-names-requires : tie.Need-is-head-names-requires
 is-head-names-requires c κs = search rules
 
 returns-2 : tie.Need-returns-2
-unfolding seen_head_names HeadNamesHeld
+unfolding seen_names NamesHeld
 returns-2 c =
-    let i = line c.before in (
-      head_names_one _ 0 _ (found i).find.ensures.0 i.if1.left (sym c.before.is-head-names.ensures ∙ c.if2.true),
-      omega (arith, i.if1.left),
-    )
+    let i = c.before.before.before in
+    (names_other _ _ _ 0 _ i.before.find.ensures.0 i.if1.false (sym c.before.is-head-names.ensures ∙ not_true _ c.if2.true), tt)
 
-sub-is-two-house-names : tie.Need-overflow-sub-is-two-house-names
-sub-is-two-house-names c = search rules
-
-part-is-two-house-names-start : tie.Need-slice-bounds-is-two-house-names-start
-part-is-two-house-names-start c = search rules
-
-part-is-two-house-names-end : tie.Need-slice-bounds-is-two-house-names-end
-part-is-two-house-names-end c = search rules
-
-is-two-house-names-requires : tie.Need-is-two-house-names-requires
-is-two-house-names-requires c κs = search rules
+add-t3 : tie.Need-overflow-add-t3
+add-t3 c = search rules
 
 returns-3 : tie.Need-returns-3
-unfolding seen_head_names HeadNamesHeld
+unfolding seen_names NamesHeld
 returns-3 c =
-    let j = other c.before in
-    let i = line j.before in (
-      head_names_two _ 0 _ (found i).find.ensures.0 i.if1.left (sym j.before.is-head-names.ensures ∙ j.if2.left)
-          (sym c.before.is-two-house-names.ensures ∙ c.if3.true),
-      omega (arith, i.if1.left),
-    )
-
-returns-4 : tie.Need-returns-4
-unfolding seen_head_names HeadNamesHeld
-returns-4 c =
-    let j = other c.before in
-    let i = line j.before in (
-      head_names_other _ 0 _ (found i).find.ensures.0 i.if1.left (sym j.before.is-head-names.ensures ∙ j.if2.left)
-          (sym c.before.is-two-house-names.ensures ∙ c.if3.false),
-      tt,
+    let i = c.before.before.before in (
+      names_same _ _ _ 0 _ i.before.find.ensures.0 i.if1.false (sym c.before.is-head-names.ensures ∙ not-false _ c.if2.false),
+      omega (arith, i.if1.false),
     )
 
 pub read-head-names-spec : {M : Type 1} → statement M
@@ -85,15 +50,10 @@ read-head-names-spec =
     (tie.spec
     find-requires
     returns
-    add-next
     sub-is-head-names
     part-is-head-names-start
     part-is-head-names-end
     is-head-names-requires
     returns-2
-    sub-is-two-house-names
-    part-is-two-house-names-start
-    part-is-two-house-names-end
-    is-two-house-names-requires
-    returns-3
-    returns-4)
+    add-t3
+    returns-3)

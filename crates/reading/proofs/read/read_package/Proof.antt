@@ -3,15 +3,15 @@ use mathlib.Core.Path.{◌∙◌}
 use native.Mathlib.Omega.{arith}
 use Rattle.package.proofs.Joining.{head-refused, head_read, terms-refused, terms-read, sums-refused, sums_sound, package_long, package_head, package_terms, package_sums, package_read_lem, package_line, room_for}
 use Rattle.package.proofs.TermSlices.{kept-length}
-use Rattle.package.specs.Held.{HeadHeld, TermsHeld, seen_all, count_all, BoundsHeld, spot_all, line_all, LineHeld, FirstsHeld}
+use Rattle.package.specs.Held.{HeadHeld, TermsHeld, seen_all, count_all, gens_all, basis_all, spot_all, line_all, LineHeld, FirstsHeld}
 use Rattle.package.specs.Package.{package_limits, read_package}
 use borrow.Author.Rules.{rules}
 use Rattle.reading.proofs.read.read_package.Statement.{statement}
 use Rattle.reading.proofs.read.read_package.Tie as tie
 
 returns : tie.Need-returns
-unfolding seen_all count_all BoundsHeld spot_all line_all LineHeld FirstsHeld read_package
-returns c = (package_long package_limits c.before.before.before.before.before.before.before.before.args.s.now c.if1.true, ((omega arith, λ i z. absurd (omega arith)), (tt, ((omega arith, omega arith, tt), tt))))
+unfolding seen_all count_all gens_all basis_all spot_all line_all LineHeld FirstsHeld read_package
+returns c = (package_long package_limits c.before.before.before.before.before.before.before.before.args.s.now c.if1.true, ((omega arith, λ i z. absurd (omega arith)), ((omega arith, omega arith), ((omega arith, omega arith, tt), tt))))
 
 read-head-lines-requires : tie.Need-read-head-lines-requires
 read-head-lines-requires c κs = search rules
@@ -20,12 +20,12 @@ enum-known-a : tie.Need-enum-known-a
 enum-known-a c = search rules
 
 returns-2 : tie.Need-returns-2
-unfolding seen_all count_all BoundsHeld spot_all line_all LineHeld FirstsHeld read_package
+unfolding seen_all count_all gens_all basis_all spot_all line_all LineHeld FirstsHeld read_package
 returns-2 c =
     let h = c.before.before.before in
     let s = h.before.before.before.before.before.before.before.before.before.args.s.now in
     let z = h.before.if1.false in
-    (package_head package_limits s z _ _ (head-refused _ _ _ _ c.before.a.given.1 h.read-head-lines.ensures.0), ((omega arith, λ i z. absurd (omega arith)), (tt, ((omega arith, omega arith, tt), tt))))
+    (package_head package_limits s z _ _ (head-refused _ _ _ _ c.before.a.given.1 h.read-head-lines.ensures.0), ((omega arith, λ i z. absurd (omega arith)), ((omega arith, omega arith), ((omega arith, omega arith, tt), tt))))
 
 enum-known-a-2 : tie.Need-enum-known-a-2
 enum-known-a-2 c = search rules
@@ -57,7 +57,7 @@ same-length-5 : tie.Need-same-length-5
 same-length-5 c = search rules
 
 returns-3 : tie.Need-returns-3
-unfolding seen_all count_all BoundsHeld spot_all line_all LineHeld FirstsHeld read_package
+unfolding seen_all count_all gens_all basis_all spot_all line_all LineHeld FirstsHeld read_package
 returns-3 c =
     let t = c.before.before.before.before.before.before.before.before.before.before.before.before.before in
     let a = t.before.before.before.before.before.before.before.before in
@@ -66,7 +66,7 @@ returns-3 c =
     let z = h.before.if1.false in
     let e = head_read _ _ _ _ a.a2.given.1 h.read-head-lines.ensures.0 in (
       package_terms package_limits s z _ e _ _ (terms-refused _ _ _ _ _ _ _ _ _ _ c.before.b.given.1 t.read-terms.ensures.0),
-      ((omega arith, λ i z. absurd (omega arith)), (tt, ((omega arith, omega arith, tt), tt))),
+      ((omega arith, λ i z. absurd (omega arith)), ((omega arith, omega arith), ((omega arith, omega arith, tt), tt))),
     )
 
 enum-known-b-2 : tie.Need-enum-known-b-2
@@ -80,7 +80,7 @@ judge-sum-block-requires c κs =
     let h = a.before.before in
     let x = rw a.a2.given.1 at h.read-head-lines.ensures.1 in
     let y = rw c.before.b2.given.1 at t.read-terms.ensures.1 in
-    (x.0.letters, (y.1, y.2, h.before.if1.false))
+    (x.0.0, (y.1, y.2, h.before.if1.false))
 
 enum-known-d : tie.Need-enum-known-d
 enum-known-d c = search rules
@@ -99,7 +99,7 @@ mark-items-requires c κs =
     let x = rw a.a2.given.1 at h.read-head-lines.ensures.1 in
     let y = rw t2.b2.given.1 at t.read-terms.ensures.1 in
     let k = t.read-terms.auto.1.1.1.1.1 in
-    (x.0, (room_for (k.0 ∙ p.0) y.0.0, room_for (k.1.0 ∙ p.1) y.0.0, p.5))
+    ((x.0.1, x.0.2), (room_for (k.0 ∙ p.0) y.0.0, room_for (k.1.0 ∙ p.1) y.0.0, p.5))
 
 same-length-6 : tie.Need-same-length-6
 same-length-6 c = search rules
@@ -117,7 +117,7 @@ same-length-10 : tie.Need-same-length-10
 same-length-10 c = search rules
 
 returns-4 : tie.Need-returns-4
-unfolding seen_all count_all BoundsHeld spot_all line_all LineHeld FirstsHeld read_package
+unfolding seen_all count_all gens_all basis_all spot_all line_all LineHeld FirstsHeld read_package
 returns-4 c =
     let j = c.before.before.before in
     let t2 = j.before.before in
@@ -129,7 +129,7 @@ returns-4 c =
     let e = head_read _ _ _ _ a.a2.given.1 h.read-head-lines.ensures.0 in
     let f = terms-read _ _ _ _ _ _ _ _ _ _ t2.b2.given.1 t.read-terms.ensures.0 in (
       package_sums package_limits s z _ e _ f _ _ (sums-refused _ _ _ c.before.d.given.1 j.judge-sum-block.ensures),
-      ((omega arith, λ i z. absurd (omega arith)), (tt, ((omega arith, omega arith, tt), tt))),
+      ((omega arith, λ i z. absurd (omega arith)), ((omega arith, omega arith), ((omega arith, omega arith, tt), tt))),
     )
 
 same-length-11 : tie.Need-same-length-11
@@ -151,7 +151,7 @@ same-length-16 : tie.Need-same-length-16
 same-length-16 c = search rules
 
 returns-5 : tie.Need-returns-5
-unfolding seen_all count_all BoundsHeld spot_all line_all LineHeld FirstsHeld read_package HeadHeld TermsHeld
+unfolding seen_all count_all gens_all basis_all spot_all line_all LineHeld FirstsHeld read_package HeadHeld TermsHeld
 returns-5 c =
     let j = c.before.before.before.before.before.before.before.before in
     let t2 = j.before.before in
@@ -165,7 +165,7 @@ returns-5 c =
     let x = rw a.a2.given.1 at h.read-head-lines.ensures.1 in
     let y = rw t2.b2.given.1 at t.read-terms.ensures.1 in (
       package_read_lem package_limits s z _ e _ f (sums_sound _ _ c.before.before.before.before.before.before.enum_told.given.1 j.judge-sum-block.ensures),
-      (y.0, (x.0, ((y.1, y.2, package_line package_limits s z _ e _ f _ (kept-length _ _ _ _ _ _ _)), c.before.before.mark-items.ensures))),
+      (y.0, ((x.0.1, x.0.2), ((y.1, y.2, package_line package_limits s z _ e _ f _ (kept-length _ _ _ _ _ _ _)), c.before.before.mark-items.ensures))),
     )
 
 pub read-package-spec : {M : Type 1} → statement M

@@ -3,7 +3,7 @@ use mathlib.Core.Path.{◌≡◌, sym, ap, ◌∙◌}
 use mathlib.Core.List.{List, [], ◌∷◌, ◌++◌}
 use Prim.Native.Nat.{ℕ, suc, ◌+◌, ◌<◌}
 use native.Mathlib.Omega.{arith}
-use Rattle.table.specs.Table.{base_in, first_in, size_in, blocks_in}
+use Rattle.table.specs.Table.{gens_in, first_in, size_in, blocks_in}
 use Rattle.table.proofs.LeadingTerms.{LeadTerm, lead-term}
 use lib.ListN.{get_or, replicate}
 use Rattle.packing.proofs.Stores.{sets_whole}
@@ -16,9 +16,9 @@ use Rattle.tablesums.proofs.factors.lead_word.Tie as tie
 leading : (s : tie.Start) → LeadTerm s.args.t.now (suc s.args.g)
 leading s = lead-term s.args.t.now s.requires.0 (suc s.args.g) (omega arith) s.requires.1
 
-first_is_lem : (x : tie.After-first-in) → let a = x.before.before.args in x.first-in.result ≡ first_in a.t.now (base_in a.t.now + suc a.g)
+first_is_lem : (x : tie.After-first-in) → let a = x.before.before.args in x.first-in.result ≡ first_in a.t.now (gens_in a.t.now + suc a.g)
 first_is_lem x =
-    let e = x.before.base-in.ensures in
+    let e = x.before.gens-in.ensures in
     x.first-in.ensures ∙ ap (first_in x.before.before.args.t.now) (omega arith)
 
 -- it is one of the terms
@@ -30,8 +30,8 @@ first-few x =
     let m = x.before.before.requires.0.terms in
     omega arith
 
-base-in-requires : tie.Need-base-in-requires
-base-in-requires c κs = search rules
+gens-in-requires : tie.Need-gens-in-requires
+gens-in-requires c κs = search rules
 
 add-first-in : tie.Need-overflow-add-first-in
 add-first-in c = search rules
@@ -96,7 +96,7 @@ pub lead-word-spec : {M : Type 1} → statement M
 lead-word-spec =
     tie.close
     (tie.spec
-    base-in-requires
+    gens-in-requires
     add-first-in
     add-first-in-2
     first-in-requires

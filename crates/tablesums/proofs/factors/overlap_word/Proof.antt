@@ -3,7 +3,7 @@ use mathlib.Core.Path.{◌≡◌, ap, ◌∙◌}
 use Prim.Native.Nat.{suc, ◌+◌}
 use native.Mathlib.Omega.{arith}
 use Rattle.table.specs.Polynomials.{word_in}
-use Rattle.table.specs.Table.{base_in, first_in}
+use Rattle.table.specs.Table.{gens_in, first_in}
 use Rattle.tablesums.proofs.Fitting.{empty-short}
 use Rattle.table.proofs.LeadingTerms.{LeadTerm, lead-term}
 use Rattle.tablesums.proofs.CutFactors.{overlap_made}
@@ -18,13 +18,13 @@ start x = x.before.before.before
 leading : (s : tie.Start) → LeadTerm s.args.t.now (suc s.args.f.first)
 leading s = lead-term s.args.t.now s.requires.0 (suc s.args.f.first) (omega arith) s.requires.1
 
-first_is_lem : (x : tie.After-first-in) → let a = (start x).args in x.first-in.result ≡ first_in a.t.now (base_in a.t.now + suc a.f.first)
+first_is_lem : (x : tie.After-first-in) → let a = (start x).args in x.first-in.result ≡ first_in a.t.now (gens_in a.t.now + suc a.f.first)
 first_is_lem x =
-    let e = x.before.before.base-in.ensures in
+    let e = x.before.before.gens-in.ensures in
     x.first-in.ensures ∙ ap (first_in (start x).args.t.now) (omega arith)
 
-base-in-requires : tie.Need-base-in-requires
-base-in-requires c κs = search rules
+gens-in-requires : tie.Need-gens-in-requires
+gens-in-requires c κs = search rules
 
 add-first-in : tie.Need-overflow-add-first-in
 add-first-in c = search rules
@@ -56,7 +56,7 @@ pub overlap-word-spec : {M : Type 1} → statement M
 overlap-word-spec =
     tie.close
     (tie.spec
-    base-in-requires
+    gens-in-requires
     add-first-in
     add-first-in-2
     first-in-requires

@@ -8,15 +8,15 @@ use borrow.Author.Rules.{rules}
 use Rattle.tablesums.proofs.starting.start_difference.Statement.{statement}
 use Rattle.tablesums.proofs.starting.start_difference.Tie as tie
 
--- from the second inverse back to the number of items before the basis, and to the start
-abbrev base : tie.After-inverse-in2 → tie.After-base-in
-base y = y.before.before
+-- from the second inverse back to the number of relations, and to the start
+abbrev gens : tie.After-inverse-in2 → tie.After-gens-in
+gens y = y.before.before
 
 abbrev start : tie.After-inverse-in2 → tie.Start
-start y = (base y).before
+start y = (gens y).before
 
-base-in-requires : tie.Need-base-in-requires
-base-in-requires c κs = search rules
+gens-in-requires : tie.Need-gens-in-requires
+gens-in-requires c κs = search rules
 
 add-base : tie.Need-overflow-add-base
 add-base c = search rules
@@ -37,8 +37,8 @@ place-item-requires c κs =
     let (tabled, first, _, nine) = s.pre.0 in
     let (_, (_, (r, arranged))) = s.pre.1 in
     let none = empty-short s.args.t.now in
-    let e = (base y).base-in.ensures in
-    let item = (base y).base-in.result + 1 + s.args.f.first in
+    let e = (gens y).gens-in.ensures in
+    let item = (gens y).gens-in.result + 1 + s.args.f.first in
     let fits = short-fits _ tabled 0 s.args.sizes.rest item none.short.few r.short.few (omega arith) (omega arith) in
     ((tabled, y.before.inverse-in.ensures.1, omega arith, omega arith, nine), ((none.short.six, r.short.six, fits), arranged))
 
@@ -47,7 +47,7 @@ add-take-item c =
     let y = c.before.before.before.before.before.before.before.before.before in
     let s = start y in
     let (tabled, _, second, _) = s.pre.0 in
-    omega (arith, (base y).base-in.ensures, second, tabled.gens, tabled.others, tabled.basis)
+    omega (arith, (gens y).gens-in.ensures, second, tabled.gens, tabled.basis)
 
 take-item-requires : tie.Need-take-item-requires
 take-item-requires c κs =
@@ -58,10 +58,10 @@ take-item-requires c κs =
     let (tabled, first, second, _) = s.pre.0 in
     let (l, (b, (r, _))) = s.pre.1 in
     let none = empty-short t in
-    let e = (base y).base-in.ensures in
+    let e = (gens y).gens-in.ensures in
     let d = p.place-item.ensures in
     let d₀ = d.0.0 in
-    let item = (base y).base-in.result + 1 + s.args.f.second in
+    let item = (gens y).gens-in.result + 1 + s.args.f.second in
     let fits = short-fits _ tabled s.args.sizes.front s.args.sizes.back item l.short.few b.short.few (omega arith) (omega arith) in
     let works = first-working t tabled s.args.f.first first _ _ (omega arith) y.before.inverse-in.ensures.0 _ _ _ _ _ _ _ d.1.0 d.1.1 in (
       (tabled, y.inverse-in2.ensures.1, omega arith, omega arith, omega arith, omega arith, d.0.1),
@@ -77,7 +77,7 @@ returns c =
     let (tabled, first, second, _) = s.pre.0 in
     let (l, (b, (r, _))) = s.pre.1 in
     let none = empty-short t in
-    let e = (base y).base-in.ensures in
+    let e = (gens y).gens-in.ensures in
     let d = p.place-item.ensures in
     let a = c.take-item.ensures in
     let is = difference_is t tabled s.args.f first second _ _ _ _ (omega arith) (omega arith) y.before.inverse-in.ensures.0
@@ -88,7 +88,7 @@ pub start-difference-spec : {M : Type 1} → statement M
 start-difference-spec =
     tie.close
     (tie.spec
-    base-in-requires
+    gens-in-requires
     add-base
     inverse-in-requires
     inverse-in-requires-2

@@ -5,7 +5,7 @@ use native.Mathlib.Omega.{arith}
 use Rattle.words.specs.Word.{Word, around}
 use Rattle.algebra.specs.Ideal.{Line}
 use Rattle.table.specs.Polynomials.{word_in}
-use Rattle.table.specs.Table.{order_in, base_in, first_in}
+use Rattle.table.specs.Table.{order_in, gens_in, first_in}
 use Rattle.table.specs.Words.{word_of, line_of}
 use Rattle.tablesums.specs.Leading.{lead_in}
 use Rattle.tablesums.proofs.Comparisons.{built-stand, under-below, under-equal, under-above}
@@ -21,9 +21,9 @@ start x = x.before.before
 leading : (s : tie.Start) → LeadTerm s.args.t.now s.args.of
 leading s = lead-term s.args.t.now s.requires.0.0 s.args.of s.requires.0.1 s.requires.0.2
 
-first_is_lem : (x : tie.After-first-in) → let a = (start x).args in x.first-in.result ≡ first_in a.t.now (base_in a.t.now + a.of)
+first_is_lem : (x : tie.After-first-in) → let a = (start x).args in x.first-in.result ≡ first_in a.t.now (gens_in a.t.now + a.of)
 first_is_lem x =
-    let e = x.before.base-in.ensures in
+    let e = x.before.gens-in.ensures in
     x.first-in.ensures ∙ ap (first_in (start x).args.t.now) (omega arith)
 
 -- the line, with any coefficient
@@ -48,8 +48,8 @@ stands q =
     let s = start b.before.before in
     q.stand.ensures ∙ built-stand s.args.t.now s.pre.0.0.suits _ _ _ _ b.build.ensures.0 s.pre.0.3
 
-base-in-requires : tie.Need-base-in-requires
-base-in-requires c κs = search rules
+gens-in-requires : tie.Need-gens-in-requires
+gens-in-requires c κs = search rules
 
 add-first-in : tie.Need-overflow-add-first-in
 add-first-in c = search rules
@@ -101,7 +101,7 @@ pub is-under-spec : {M : Type 1} → statement M
 is-under-spec =
     tie.close
     (tie.spec
-    base-in-requires
+    gens-in-requires
     add-first-in
     first-in-requires
     build-requires

@@ -45,8 +45,7 @@ returns c =
     let e = m.loop.invariant.0 in
     let q = c.loop-test.false in
     let D = m.loop.invariant.2 in
-    let S = D.same in
-    (S.tabled, ((S.prime, S.letters), ((S.gens, S.others-count, S.count), ((S.relations, S.other_relations_lem), divided-all s.args.t.now m.loop.t m.loop.g (omega arith) D))))
+    (D.tabled, ((D.prime, D.letters), ((D.gens, D.count), (D.relations, divided-all s.args.t.now m.loop.t m.loop.g (omega arith) D))))
 
 pub divide-basis-spec : {M : Type 1} → statement M
 divide-basis-spec =

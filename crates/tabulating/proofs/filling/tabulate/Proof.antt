@@ -3,19 +3,13 @@ use native.Mathlib.Omega.{arith}
 use Rattle.tabulating.proofs.PlainKeys.{plain_keys}
 use Rattle.tabulating.proofs.LeadingCoefs.{leading}
 use Rattle.tabulating.proofs.Tabulated.{Begun, begun_of, sections_of, words_lie_lem, tabled}
-use Rattle.tabulating.proofs.Tabulated.{prime_is, letter-count_is, gens_is, others-count_is, basis-count_is, relations_are, others_are, basis_is}
+use Rattle.tabulating.proofs.Tabulated.{prime_is, letter-count_is, gens_is, basis-count_is, relations_are, basis_is}
 use borrow.Author.Rules.{rules}
 use Rattle.tabulating.proofs.filling.tabulate.Statement.{statement}
 use Rattle.tabulating.proofs.filling.tabulate.Tie as tie
 
-cast-base : tie.Need-overflow-cast-base
-cast-base c = search rules
-
-cast-base-2 : tie.Need-overflow-cast-base-2
-cast-base-2 c = search rules
-
-add-base : tie.Need-overflow-add-base
-add-base c = search rules
+cast-gens : tie.Need-overflow-cast-gens
+cast-gens c = search rules
 
 cast-basis : tie.Need-overflow-cast-basis
 cast-basis c = search rules
@@ -31,7 +25,7 @@ add-put-inverses c = search rules
 
 put-inverses-requires : tie.Need-put-inverses-requires
 put-inverses-requires c κs =
-    let s = c.before.before.before.before.before.before.before.before.before.before.before.before.before in
+    let s = c.before.before.before.before.before.before.before.before.before.before.before.before in
     let l = s.requires.1.0 in
     let marks = l.basis-runs.marks in
     let most = l.prime in (
@@ -47,10 +41,7 @@ add-put-firsts-2 : tie.Need-overflow-add-put-firsts-2
 add-put-firsts-2 c = search rules
 
 put-firsts-requires : tie.Need-put-firsts-requires
-put-firsts-requires c κs =
-    let s = c.before.before.before.before.before.before.before.before.before.before.before.before.before.before.before in
-    let l = s.requires.1.0 in
-    (search rules, omega (arith, l.counts.gens, l.counts.others, l.counts.basis), omega (arith, l.basis-runs.marks))
+put-firsts-requires c κs = search rules
 
 abbrev keys : tie.After-put-rows-arg → tie.After-put-keys
 keys c = c.before.before.before.before.before
@@ -59,7 +50,7 @@ abbrev head : tie.After-put-rows-arg → tie.After-put-head
 head c = (keys c).before.before
 
 abbrev start : tie.After-put-rows-arg → tie.Start
-start c = (head c).before.before.before.before.before.before.before.before.before.before
+start c = (head c).before.before.before.before.before.before.before.before.before
 
 begun : (c : tie.After-put-rows-arg) → let a = (start c).args in Begun a.h a.m a.coefs.now a.firsts.now c.before.put-firsts.new.0
 begun c =
@@ -67,7 +58,7 @@ begun c =
     let a = s.args in
     let l = s.pre.1.0 in
     let k = (keys c).put-keys.ensures in
-    begun_of a.h a.m a.coefs.now a.firsts.now l.counts s.pre.0 (head c).put-head.ensures k.0 k.1
+    begun_of a.h a.m a.coefs.now a.firsts.now l.gens l.basis s.pre.0 (head c).put-head.ensures k.0 k.1
     c.before.before.before.put-inverses.ensures c.before.put-firsts.ensures
 
 put-rows-requires : tie.Need-put-rows-requires
@@ -83,16 +74,14 @@ returns c =
     let l = s.pre.1.0 in
     let nz = s.pre.1.1 in
     let b = begun c.before in
-    let x = sections_of a.coefs.now a.starts.now a.lens.now a.bytes.now l.counts b c.put-rows.ensures in
-    (tabled l nz x, ((prime_is l nz x, letter-count_is l nz x), ((gens_is l nz x, others-count_is l nz x, basis-count_is l nz x), (relations_are l nz x, (others_are l nz x, basis_is l nz x)))))
+    let x = sections_of a.coefs.now a.starts.now a.lens.now a.bytes.now l.gens l.basis b c.put-rows.ensures in
+    (tabled l nz x, ((prime_is l nz x, letter-count_is l nz x), ((gens_is l nz x, basis-count_is l nz x), (relations_are l nz x, basis_is l nz x))))
 
 pub tabulate-spec : {M : Type 1} → statement M
 tabulate-spec =
     tie.close
     (tie.spec
-    cast-base
-    cast-base-2
-    add-base
+    cast-gens
     cast-basis
     put-head-requires
     put-keys-requires

@@ -24,14 +24,11 @@ cast-t-3 c = search rules
 element-write-t-3 : tie.Need-element-write-t-3
 element-write-t-3 c = search rules
 
-cast-t-4 : tie.Need-overflow-cast-t-4
-cast-t-4 c = search rules
-
 element-write-t-4 : tie.Need-element-write-t-4
 element-write-t-4 c = search rules
 
-cast-t-5 : tie.Need-overflow-cast-t-5
-cast-t-5 c = search rules
+cast-t-4 : tie.Need-overflow-cast-t-4
+cast-t-4 c = search rules
 
 element-write-t-5 : tie.Need-element-write-t-5
 element-write-t-5 c = search rules
@@ -41,7 +38,7 @@ element-write-t-6 c = search rules
 
 returns : tie.Need-returns
 returns c =
-    let s = c.before.before.before.before.before in
+    let s = c.before.before.before.before in
     let size = s.requires in
     filled_six (head_entry s.args.h s.args.m) s.args.t.now (omega arith)
 
@@ -55,9 +52,8 @@ put-head-spec =
     element-write-t-2
     cast-t-3
     element-write-t-3
-    cast-t-4
     element-write-t-4
-    cast-t-5
+    cast-t-4
     element-write-t-5
     element-write-t-6
     returns)

@@ -13,8 +13,8 @@ abbrev invariant-loop : tie.invariant-loop
 invariant-loop h kinds items n firsts₀ end m₀ j₀ firsts m j =
     (j ≤ end)
     × (m ≤ n)
-    × (end ≡ h.gens + h.others + h.basis + 2)
-    × (length firsts ≡ 130)
+    × (end ≡ h.gens + h.basis + 2)
+    × (length firsts ≡ 98)
     × Onward (slots_held h kinds items n) m j
     × Stored (slots_held h kinds items n) firsts j
 
@@ -30,18 +30,12 @@ cast-end-2 c = search rules
 add-end : tie.Need-overflow-add-end invariant-loop decreases-loop
 add-end c = search rules
 
-cast-end-3 : tie.Need-overflow-cast-end-3 invariant-loop decreases-loop
-cast-end-3 c = search rules
-
 add-end-2 : tie.Need-overflow-add-end-2 invariant-loop decreases-loop
 add-end-2 c = search rules
 
-add-end-3 : tie.Need-overflow-add-end-3 invariant-loop decreases-loop
-add-end-3 c = search rules
-
 loop-holds : tie.Need-loop-init invariant-loop decreases-loop
 loop-holds c =
-    let a = c.before.before.before.before.before.before.args in
+    let a = c.before.before.before.before.before.args in
     (search rules, search rules, search rules, search rules, onward-start (slots_held a.h a.kinds.now a.items.now a.n), λ i z. absurd (omega arith))
 
 skip-terms-requires : tie.Need-skip-terms-requires invariant-loop decreases-loop
@@ -62,11 +56,10 @@ loop-less c = search rules
 loop-again : tie.Need-loop-preserved invariant-loop decreases-loop
 loop-again c =
     let x = c.before.before.loop in
-    let s = c.before.before.before.before.before.before.before.before.before in
-    let a = s.args in
+    let a = c.before.before.before.before.before.before.before.before.args in
     let q = onward-next (slots_held a.h a.kinds.now a.items.now a.n) x.m x.j _ x.invariant.4 c.skip-terms.ensures.0 in
-    let b = s.requires.0 in
-    let l : x.j < length x.firsts = omega (arith, x.invariant.3, x.invariant.2, b.gens, b.others, b.basis, c.before.loop-test.true) in (
+    let l : x.j < length x.firsts = omega
+    (arith, x.invariant.3, x.invariant.2, c.before.before.before.before.before.before.before.before.requires.0.0, c.before.before.before.before.before.before.before.before.requires.0.1, c.before.loop-test.true) in (
       search rules,
       search rules,
       search rules,
@@ -93,9 +86,7 @@ mark-items-spec =
     cast-end
     cast-end-2
     add-end
-    cast-end-3
     add-end-2
-    add-end-3
     loop-holds
     skip-terms-requires
     mul-firsts

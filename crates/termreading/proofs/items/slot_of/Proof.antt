@@ -17,25 +17,7 @@ add-result c = search rules
 
 returns-2 : tie.Need-returns-2
 unfolding slot
-returns-2 c = rw (slot, ne_eqb _ _ c.before.before.if1.false, eq-eqb _ _ c.before.if2.true)
-
-cast-result-2 : tie.Need-overflow-cast-result-2
-cast-result-2 c = search rules
-
-cast-result-3 : tie.Need-overflow-cast-result-3
-cast-result-3 c = search rules
-
-add-result-2 : tie.Need-overflow-add-result-2
-add-result-2 c = search rules
-
-add-result-3 : tie.Need-overflow-add-result-3
-add-result-3 c = search rules
-
-returns-3 : tie.Need-returns-3
-unfolding slot
-returns-3 c =
-    let e = c.before.before in
-    rw (slot, ne_eqb _ _ e.before.if1.false, ne_eqb _ _ e.if2.false)
+returns-2 c = rw (slot, ne_eqb _ _ c.before.if1.false)
 
 pub slot-of-spec : {M : Type 1} → statement M
-slot-of-spec = tie.close (tie.spec returns cast-result add-result returns-2 cast-result-2 cast-result-3 add-result-2 add-result-3 returns-3)
+slot-of-spec = tie.close (tie.spec returns cast-result add-result returns-2)

@@ -10,11 +10,7 @@ returns c = rw (items_of, eq-eqb _ _ c.if1.true)
 
 returns-2 : tie.Need-returns-2
 unfolding items_of
-returns-2 c = rw (items_of, ne_eqb _ _ c.before.if1.false, eq-eqb _ _ c.if2.true)
-
-returns-3 : tie.Need-returns-3
-unfolding items_of
-returns-3 c = rw (items_of, ne_eqb _ _ c.before.if1.false, ne_eqb _ _ c.if2.false)
+returns-2 c = rw (items_of, ne_eqb _ _ c.if1.false)
 
 pub items-of-spec : {M : Type 1} → statement M
-items-of-spec = tie.close (tie.spec returns returns-2 returns-3)
+items-of-spec = tie.close (tie.spec returns returns-2)

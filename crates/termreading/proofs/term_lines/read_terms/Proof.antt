@@ -183,7 +183,7 @@ store-term-requires c κs =
     let j = seen-accepted s _ _ _ _ _ _ _ g t.judge-term.ensures.0 in
     let r = judged-room a.h a.m (above_of s x.last) x.n _ _ _ _ _ j in
     let b : x.n < 1024 = r.0 in
-    let f = accepted-small a.h a.m (above_of s x.last) x.n _ _ _ _ _ p.0 j in
+    let f = accepted-small a.h a.m (above_of s x.last) x.n _ _ _ _ _ p.0.1 p.0.2 j in
     let d = reach-judged _ _ _ _ _ _ _ g t.judge-term.ensures.1 in
     let e = part_length _ _ s d in (
       (omega (arith, x.invariant.3), omega (arith, x.invariant.4), omega (arith, x.invariant.5), omega (arith, x.invariant.6), omega (arith, x.invariant.7)),

@@ -132,7 +132,7 @@ fn times(package: &str, first: u64, second: u64) -> Vec<u8> {
 }
 
 /// Each line dropped and doubled, and each two exchanged.
-pub fn every_line(text: &str, sink: Sink) {
+fn every_line(text: &str, sink: Sink) {
     let lines: Vec<&str> = text.lines().collect();
     for one in 0..lines.len() {
         let mut dropped = lines.clone();
@@ -189,7 +189,7 @@ fn all_services(package: &[u8], formula: &[u8], sink: Sink) {
     }
 }
 
-pub fn check_and_list(package: &[u8], sink: Sink) {
+fn check_and_list(package: &[u8], sink: Sink) {
     for service in [Service::Check, Service::List] {
         sink(&Input { service, package, formula: b"", budget: 0, out_len: 100, null: false });
     }

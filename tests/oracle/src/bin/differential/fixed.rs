@@ -95,7 +95,7 @@ fn untrimmed(random: &mut Random, sink: Sink) {
 }
 
 /// Formulas with known answers under packages of their own, and around those of them that get a short form.
-pub fn formulas(random: &mut Random, packages: Vec<(String, Vec<FormulaRow>)>, sink: Sink) {
+fn formulas(random: &mut Random, packages: Vec<(String, Vec<FormulaRow>)>, sink: Sink) {
     for (package, rows) in packages {
         let package = package.as_bytes();
         for FormulaRow { formula, budget, .. } in &rows {

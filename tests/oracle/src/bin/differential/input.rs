@@ -10,9 +10,6 @@ pub enum Service {
 
 pub const SERVICES: [Service; 4] = [Service::Check, Service::List, Service::ShortForm, Service::Member];
 
-/// 0 for success, and the refusals. There is no refusal 9.
-pub const NUMBERS: [usize; 21] = [0, 1, 2, 3, 4, 5, 6, 7, 8, 10, 11, 12, 13, 14, 15, 16, 17, 18, 19, 28, 29];
-
 impl Service {
     pub fn name(self) -> &'static str {
         match self {
@@ -23,14 +20,15 @@ impl Service {
         }
     }
 
-    /// Whether the service can answer with this one of the numbers. Listing judges no sum.
+    /// Whether the service can answer with this number: 0 for success, else a refusal. There is no refusal 9.
     pub fn can_answer(self, number: usize) -> bool {
-        match self {
-            Service::Check => number <= 15 || number >= 28,
+        let judged = match self {
+            Service::Check => number <= 15,
             Service::List => number <= 8 || number == 19,
-            Service::ShortForm => true,
-            Service::Member => number != 19,
-        }
+            Service::ShortForm => number <= 19,
+            Service::Member => number <= 18,
+        };
+        judged && number != 9
     }
 }
 

@@ -27,7 +27,7 @@ enum Way {
     LongestWord,
 }
 
-/// The ways in their order, as the table has them. About one round in 25 meets 15 just above the list, and one in 120
+/// The ways in their order, as the table has them. About one round in 20 meets 15 just above the list, and one in 120
 /// meets 10 at an inclusion.
 const NAMES: [Named; 14] = [
     ("listed: a shorter word", 60),

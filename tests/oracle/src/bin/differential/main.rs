@@ -11,8 +11,6 @@ mod compare;
 mod exhaustive;
 mod facts;
 mod fixed;
-mod fixed_houses;
-mod houses;
 mod input;
 mod inside;
 mod options;
@@ -53,7 +51,6 @@ struct Run {
     facts: Facts,
     tally: Tally,
     inside: Ways<14>,
-    houses: Ways<31>,
     places: Ways<8>,
     packings: Ways<7>,
 }
@@ -67,13 +64,10 @@ impl Run {
         }
         let facts = self.facts.of(input.package);
         self.tally.count(&facts.parts, input.service, &expected);
-        let drawn = self.round.is_some();
-        if let Some(package) = facts.package.as_ref().filter(|_| facts.untrimmed) {
+        if let Some(package) = &facts.untrimmed {
             let ways = inside::found(package, input, &expected);
-            ways.into_iter().for_each(|way| self.inside.count(way, drawn));
+            ways.into_iter().for_each(|way| self.inside.count(way, self.round.is_some()));
         }
-        let ways = houses::found(facts.package.as_ref(), input, &expected);
-        ways.into_iter().for_each(|way| self.houses.count(way, drawn));
         if let Some(message) = compare::difference(&mut self.bytes, input, &expected) {
             println!("DIFFERENCE in input {}, {}", self.tally.inputs(), input.service.name());
             self.report_round();
@@ -119,7 +113,6 @@ impl Run {
         packed_words::every_small().for_each(|word| self.take_packed(&word));
         fixed::fixed(&mut |input| self.take(input));
         exhaustive::exhaustive(&mut |input| self.take(input));
-        fixed_houses::fixed_houses(&mut |input| self.take(input));
     }
 
     /// A random round: its inputs, as many words at places, and as many words to be packed.
@@ -178,7 +171,6 @@ fn main() {
         facts: Facts::default(),
         tally: Tally::default(),
         inside: inside::ways(),
-        houses: houses::ways(),
         places: standing::ways(),
         packings: packing::ways(),
     };
@@ -198,15 +190,13 @@ fn main() {
     }
     run.tally.print();
     run.inside.print();
-    run.houses.print();
     run.places.print();
     run.places.print_all();
     run.packings.print();
     run.packings.print_all();
     let rounds = run.tally.rounds;
     let words = [run.places.missing(rounds), run.packings.missing(rounds)].concat();
-    let packages = [run.tally.missing(), run.inside.missing(rounds), run.houses.missing(rounds)].concat();
-    let missing = [packages, words].concat();
+    let missing = [run.tally.missing(), run.inside.missing(rounds), words].concat();
     missing.iter().for_each(|line| println!("{line}"));
     run.print_totals();
     if !missing.is_empty() {

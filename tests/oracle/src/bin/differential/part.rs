@@ -12,23 +12,16 @@ const OVER_256: usize = 1;
 const SCALED: usize = 2;
 /// The package reads, and a leading word stands inside another polynomial's.
 const UNTRIMMED: usize = 4;
-/// The package has the line 1 of two houses.
-const TWO_HOUSES: usize = 8;
 
-/// How many parts there are: all inputs, and the parts by one, two, three and four properties.
-pub const PARTS: usize = 16;
+/// All inputs, and the parts by one, two and three properties.
+pub const PARTS: [Part; 8] = [Part(0), Part(1), Part(2), Part(3), Part(4), Part(5), Part(6), Part(7)];
 
 impl Part {
-    /// All parts.
-    pub fn all() -> impl Iterator<Item = Part> {
-        (0..PARTS).map(Part)
-    }
-
     /// The parts that inputs under a package with these properties belong to.
-    pub fn with(over_256: bool, scaled: bool, untrimmed: bool, two_houses: bool) -> Vec<Part> {
-        let has = [(over_256, OVER_256), (scaled, SCALED), (untrimmed, UNTRIMMED), (two_houses, TWO_HOUSES)];
+    pub fn with(over_256: bool, scaled: bool, untrimmed: bool) -> Vec<Part> {
+        let has = [(over_256, OVER_256), (scaled, SCALED), (untrimmed, UNTRIMMED)];
         let had: usize = has.into_iter().filter(|(is, _)| *is).map(|(_, property)| property).sum();
-        Part::all().filter(|part| part.0 & !had == 0).collect()
+        PARTS.into_iter().filter(|part| part.0 & !had == 0).collect()
     }
 
     pub fn index(self) -> usize {
@@ -40,12 +33,7 @@ impl Part {
     }
 
     pub fn name(self) -> String {
-        let names = [
-            (TWO_HOUSES, "two houses"),
-            (UNTRIMMED, "untrimmed"),
-            (SCALED, "leading otherwise"),
-            (OVER_256, "over GF(256)"),
-        ];
+        let names = [(UNTRIMMED, "untrimmed"), (SCALED, "leading otherwise"), (OVER_256, "over GF(256)")];
         let asked: Vec<&str> =
             names.into_iter().filter(|(property, _)| self.asks(*property)).map(|(_, name)| name).collect();
         if asked.is_empty() {
@@ -56,14 +44,9 @@ impl Part {
     }
 
     /// So many random rounds must reach the part: one in five is over GF(256), and about half have each of the other
-    /// properties. About one round in three has two houses and answers 29, which must be reached with them.
+    /// properties.
     pub fn rounds(self) -> u64 {
-        let properties = (self.0 & !TWO_HOUSES).count_ones() as usize;
-        if self.has_two_houses() {
-            [60, 200, 400, 600][properties]
-        } else {
-            [20, 20, 60, 150][properties]
-        }
+        [20, 20, 60, 150][self.0.count_ones() as usize]
     }
 
     /// Whether a service can answer with this number. Over GF(256) none gives 3: p is in order. A package that reads
@@ -82,10 +65,5 @@ impl Part {
     /// Whether its packages all have a leading word inside another's.
     pub fn is_untrimmed(self) -> bool {
         self.asks(UNTRIMMED)
-    }
-
-    /// Whether its packages all have the line 1 of two houses.
-    pub fn has_two_houses(self) -> bool {
-        self.asks(TWO_HOUSES)
     }
 }

@@ -5,13 +5,10 @@ use crate::surround::{around_formula, around_list, Sink};
 use oracle::formula::formula_text;
 use oracle::generate::bound_packages::near_bound;
 use oracle::generate::damage_draft::{aim, Aim};
-use oracle::generate::damage_house::other_first_line;
 use oracle::generate::damage_text::damage;
 use oracle::generate::draft::Draft;
 use oracle::generate::formulas::Ground;
 use oracle::generate::growth::{growing_sum, meeting_formula, spreading, spreading_formula, Lines, TARGETS};
-use oracle::generate::house_bounds::near_house_bound;
-use oracle::generate::houses::house_some;
 use oracle::generate::random::Random;
 use oracle::generate::relations::field;
 use oracle::generate::scale::scale_some;
@@ -22,7 +19,7 @@ use oracle::generate::valid::valid;
 const EXAMPLE: u64 = 40;
 
 /// What `aim` is asked for: what needs more than one line to be reached stands more than once.
-const AIMS: [Aim; 29] = [
+const AIMS: [Aim; 22] = [
     Aim::P,
     Aim::Counts,
     Aim::Bounds,
@@ -31,11 +28,7 @@ const AIMS: [Aim; 29] = [
     Aim::Order,
     Aim::Zero,
     Aim::BasisSum,
-    Aim::OtherBasisSum,
-    Aim::OtherBasisSum,
     Aim::RelationSum,
-    Aim::OtherRelationSum,
-    Aim::OtherRelationSum,
     Aim::ListSum,
     Aim::ListSum,
     Aim::OtherList,
@@ -49,9 +42,6 @@ const AIMS: [Aim; 29] = [
     Aim::LeadingWord,
     Aim::Exchange,
     Aim::Coefficient,
-    Aim::House,
-    Aim::House,
-    Aim::House,
 ];
 
 pub fn round(random: &mut Random, examples: &[Draft], sink: Sink) {
@@ -73,7 +63,7 @@ pub fn round(random: &mut Random, examples: &[Draft], sink: Sink) {
         let damaged = damage(random, &package);
         all_services(random, &damaged, &formula, sink);
     }
-    for _ in 0..9 {
+    for _ in 0..8 {
         let mut aimed = draft.clone();
         // Two faults in one package show which refusal comes first.
         for _ in 0..random.between(1, 2) {
@@ -82,24 +72,13 @@ pub fn round(random: &mut Random, examples: &[Draft], sink: Sink) {
         }
         let formula = ground.formula(random);
         let mut text = aimed.text();
-        match random.below(12) {
-            0 | 1 => text = damage(random, &text),
-            2 => text = other_first_line(random, &text),
-            _ => (),
+        if random.one_in(6) {
+            text = damage(random, &text);
         }
         all_services(random, &text, &formula, sink);
     }
-    if random.one_in(4) {
-        growing_sums(random, sink);
-    }
     if random.one_in(8) {
-        growing_formula(random, sink);
-    }
-    if random.one_in(8) {
-        let p = field(random);
-        let mut draft = near_house_bound(random, p);
-        scale_some(random, &mut draft);
-        all_services(random, &draft.text(), b"coef word\n1 cabc\n", sink);
+        growing(random, sink);
     }
     if random.one_in(16) {
         let p = field(random);
@@ -111,14 +90,11 @@ pub fn round(random: &mut Random, examples: &[Draft], sink: Sink) {
     }
 }
 
-/// An example package, often with more basis polynomials, with a second house or with other leading coefficients.
+/// An example package, often with more basis polynomials or with other leading coefficients.
 fn example(random: &mut Random, examples: &[Draft]) -> Draft {
     let mut draft = random.pick(examples).clone();
     if random.one_in(2) {
         draft = untrimmed(random, &draft).unwrap_or(draft);
-    }
-    if draft.others.is_none() {
-        house_some(random, &mut draft);
     }
     scale_some(random, &mut draft);
     draft
@@ -135,8 +111,8 @@ fn all_services(random: &mut Random, package: &[u8], formula: &[u8], sink: Sink)
     }
 }
 
-/// A sum that comes near 512 terms.
-fn growing_sums(random: &mut Random, sink: Sink) {
+/// A sum and a formula that come near 512 terms.
+fn growing(random: &mut Random, sink: Sink) {
     let p = field(random);
     let target = *random.pick(&TARGETS);
     let top = random.between(505, 520) as usize;
@@ -144,14 +120,8 @@ fn growing_sums(random: &mut Random, sink: Sink) {
     let mut draft = growing_sum(random, p, target, top, lines);
     scale_some(random, &mut draft);
     all_services(random, &draft.text(), b"coef word\n1 acac\n", sink);
-}
-
-/// A formula that comes near 512 terms.
-fn growing_formula(random: &mut Random, sink: Sink) {
-    let p = field(random);
     let terms = random.between(20, 48) as usize;
     let mut draft = spreading(random, p, terms);
-    house_some(random, &mut draft);
     scale_some(random, &mut draft);
     let package = draft.text();
     let formula = if random.one_in(2) {

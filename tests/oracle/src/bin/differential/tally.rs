@@ -2,13 +2,12 @@
 //! silently stop testing.
 
 use crate::compare::Expected;
-use crate::input::{Service, NUMBERS, SERVICES};
+use crate::input::{Service, SERVICES};
 use crate::part::{Part, PARTS};
 
 #[derive(Default)]
 struct Counts {
-    /// By service and number.
-    numbers: [[u64; 30]; 4],
+    numbers: [[u64; 20]; 4],
     /// Short forms that took steps.
     stepped: u64,
     /// Formulas that are members.
@@ -32,11 +31,6 @@ impl Counts {
 
     fn inputs(&self) -> u64 {
         self.numbers.iter().flatten().sum()
-    }
-
-    /// How often any service gave a number.
-    fn answers(&self, number: usize) -> u64 {
-        SERVICES.map(|service| self.of(service, number)).iter().sum()
     }
 
     /// Inputs whose package was judged whole and accepted: the answer is 0 or what comes after the package. Listing
@@ -63,9 +57,6 @@ impl Counts {
         if part.is_untrimmed() {
             reached.push(("lists with inclusions", self.of(Service::List, 0)));
         }
-        if part.has_two_houses() {
-            reached.extend([("answers 28", self.answers(28)), ("answers 29", self.answers(29))]);
-        }
         reached
     }
 }
@@ -73,9 +64,9 @@ impl Counts {
 #[derive(Default)]
 pub struct Tally {
     /// By part.
-    whole: [Counts; PARTS],
+    whole: [Counts; PARTS.len()],
     /// Those of random rounds.
-    drawn: [Counts; PARTS],
+    drawn: [Counts; PARTS.len()],
     /// How many random rounds there were.
     pub rounds: u64,
 }
@@ -97,11 +88,11 @@ impl Tally {
 
     /// Prints the tables of numbers, and what was reached in each part.
     pub fn print(&self) {
-        for two in Part::all().collect::<Vec<_>>().chunks(2) {
+        for two in PARTS.chunks(2) {
             self.print_numbers(two);
         }
         let rounds = format!(" in {} random rounds", self.rounds);
-        for part in Part::all() {
+        for part in PARTS {
             for (what, counts) in [("", &self.whole), (&rounds, &self.drawn)] {
                 let reached = counts[part.index()].reached(part);
                 let shown: Vec<String> =
@@ -121,7 +112,7 @@ impl Tally {
         let names: Vec<String> = parts.iter().map(|part| format!("{:^47}", part.name())).collect();
         println!("{:10} {}", "", names.join("    "));
         row("number", &|_, service| service.name().to_string());
-        for number in NUMBERS {
+        for number in (0..20).filter(|number| *number != 9) {
             row(&number.to_string(), &|part, service| match self.whole[part.index()].of(service, number) {
                 0 if !part.can_answer(service, number) => "-".to_string(),
                 count => count.to_string(),
@@ -135,10 +126,10 @@ impl Tally {
     /// The numbers that a service can give and never gave, and what was not reached, in each part.
     pub fn missing(&self) -> Vec<String> {
         let mut missing = Vec::new();
-        for part in Part::all() {
+        for part in PARTS {
             let counts = &self.whole[part.index()];
             for service in SERVICES {
-                for number in NUMBERS.into_iter().filter(|number| part.can_answer(service, *number)) {
+                for number in (0..20).filter(|number| part.can_answer(service, *number)) {
                     if counts.of(service, number) == 0 {
                         missing.push(format!("{} never answered {number}, {}", service.name(), part.name()));
                     }

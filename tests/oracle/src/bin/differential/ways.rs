@@ -1,4 +1,4 @@
-//! How often each way to answer was met.
+//! How often each way to answer was met, for what is compared below the services.
 
 /// A way by its name, and how many random rounds must meet it.
 pub type Named = (&'static str, u64);
