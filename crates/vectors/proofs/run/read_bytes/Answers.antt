@@ -1,0 +1,22 @@
+-- The bytes of one read stand behind those of the reads before it, and were taken behind them; where the file ends, no more were left.
+use Rattle.std.proofs.Common.{◌≡◌, ℕ, ◌+◌, ◌≤◌, List, ◌++◌, length, take, sym, ap, ◌∙◌, rules, arith, subst, length-take-le}
+use Rattle.std.proofs.Math.Seq.{take-append-add}
+use Rattle.std.proofs.lemmas.List.{take-append-le}
+use Rattle.std.proofs.KnownBytes.{Consumes-trans}
+use Rattle.std.specs.Io.KnownBytes.{Consumes}
+use borrow.Rule.Slice.PartMut.{put_mid, post_of}
+use Rattle.vectors.proofs.run.read_bytes.Goals as goal
+
+-- n bytes more of a slice xs that holds ys from a on
+take-put_mid_more : (a k n : ℕ) (xs ys : List ℕ) → a ≤ length xs → n ≤ length ys → take (a + n) (put_mid a k xs ys) ≡ take a xs ++ take n ys
+take-put_mid_more a k n xs ys within fits =
+    ap (λ m. take (m + n) (put_mid a k xs ys)) (sym (length-take-le a xs within)) ∙ take-append-add (take a xs) (ys ++ post_of a k xs) n
+    ∙ ap (λ l. take a xs ++ l) (take-append-le n ys (post_of a k xs) fits)
+
+pub loop-done-preserved : goal.loop-done-preserved
+loop-done-preserved g c = record {
+  same_length = search rules;
+  in_bounds = search rules;
+  read = subst (Consumes _ _) (sym (take-put_mid_more _ _ _ _ _ (omega arith) c.in_ok-more.ensures.bound.0))
+      (Consumes-trans _ _ _ _ _ c.loop-done.invariant.read c.in_ok-more.ensures.bytes.0);
+}
