@@ -1,5 +1,6 @@
-// Functions below the services that tests call from C and Rust (tests/c/trials.h). They are no part of the library: `rt staticlib trials`
-// puts them into an archive of their own.
+// Functions below the services that tests call. They are no part of the library: crate trials_c exports them for C and Rust
+// (tests/c/trials.h), in an archive of their own.
+#![tactic(auto)]
 
 ghost use Rattle.std.specs.Prelude.{◌≡◌};
 ghost use Rattle.words.specs.Place.{stands_at, compared_at};
@@ -12,15 +13,14 @@ use wordplaces::place::{Stood, stands_at};
 
 // Whether bytes are a word that is packed, and the numbers that it is packed into.
 #[repr(C)]
-#[derive(Drop)]
+#[derive(Clone, Copy)]
 pub struct Packed {
     pub fits: bool,
     pub blocks: [u64; 6],
 }
 
 // Whether b stands in w at the place, and how many letters a comparison one by one from the end takes. Any bytes and any place are taken.
-#[unsafe(no_mangle)]
-pub extern "C" fn vg_trial_stands_at(b: &[u8], w: &[u8], at: usize) -> Stood
+pub fn vg_trial_stands_at(b: &[u8], w: &[u8], at: usize) -> Stood
     ensures stands_value { result.stands ≡ stands_at b.now w.now at }
     ensures compared_value { result.compared ≡ compared_at b.now w.now at }
 {
@@ -29,8 +29,7 @@ pub extern "C" fn vg_trial_stands_at(b: &[u8], w: &[u8], at: usize) -> Stood
 
 // w packed by the keys of document 01's order, as the services pack it. Any bytes are taken; no, and six zeros, for those that are no word of at
 // most 72 letters `a` to `z`.
-#[unsafe(no_mangle)]
-pub extern "C" fn vg_trial_pack(w: &[u8]) -> Packed
+pub fn vg_trial_pack(w: &[u8]) -> Packed
     ensures fits_value { result.fits ≡ packable w.now }
     ensures blocks_value { result.blocks ≡ six_blocks w.now }
 {
