@@ -1,22 +1,21 @@
 -- The terms of a formula that reads are a polynomial in written form and in the letters. Such polynomials are equal where their texts are.
 use mathlib.Core.Path.{◌≡◌, refl, sym, ◌∙◌, ap}
-use mathlib.Core.Bool.{Bool, true, false, false≢true}
+use mathlib.Core.Bool.{Bool, true, false}
 use mathlib.Core.Logic.{◌⊎◌, inl, inr}
 use mathlib.Core.List.{List, [], ◌∷◌, ◌++◌}
 use Prim.Native.Nat.{ℕ, zero, suc, ◌+◌, ◌≤◌, ◌<◌}
 use native.Mathlib.Omega.{arith}
 use lib.Dec.{eqb, ltb}
 use lib.ListN.{length}
-use borrow.Author.Tests.{eqb-true, eq-eqb, ne_eqb, ltb-true, lt-ltb, le-ltb}
+use borrow.Author.Tests.{eqb-true, eq-eqb, lt-ltb, le-ltb}
 use Rattle.field.specs.Field.{field_of}
 use Rattle.field.proofs.Fields.{element_of, below_of}
-use Rattle.words.specs.declared.Comparison.TheVariants.{Below}
 use Rattle.lists.specs.All.{All, done, ◌also◌}
 use Rattle.words.specs.Word.{Word, Letter}
 use Rattle.words.specs.Order.{Lt, word_order}
-use Rattle.lists.proofs.Every.{all_map, all_split, all_append}
+use Rattle.lists.proofs.Every.{all_map, all_split}
 use Rattle.words.proofs.WordOrder.{word-order-admissible}
-use Rattle.algebra.specs.Poly.{Term, Poly, InLetters}
+use Rattle.algebra.specs.Poly.{Poly, InLetters}
 use Rattle.algebra.specs.Written as W
 use Rattle.algebra.specs.Written.{Written}
 use Rattle.text.specs.Bytes.{all_within}

@@ -4,7 +4,6 @@ use mathlib.Core.Bool.{Bool, true, false}
 use mathlib.Core.List.{List, [], ◌∷◌}
 use Prim.Native.Nat.{ℕ, ◌≤◌, ◌<◌}
 use native.Mathlib.Omega.{arith}
-use lib.Dec.{ltb}
 use lib.ListN.{length}
 use borrow.Author.Tests.{lt-ltb, le-ltb}
 use Rattle.field.specs.Field.{Operations}
@@ -14,7 +13,7 @@ use Rattle.algebra.specs.Ideal.{Family, Line}
 use Rattle.algebra.specs.Steps.{take_away}
 use Rattle.package.specs.Sums.{SumLine}
 use Rattle.acceptance.specs.Content.{line_of}
-use Rattle.acceptance.specs.Check.{refusal, fine, fails, over, rest, less, sum_verdict}
+use Rattle.acceptance.specs.Check.{refusal, fine, fails, over, less, sum_verdict}
 
 module _ (test : Line → Bool) (K : Operations) (O : Order) (G : Family) where
   -- one line at the front

@@ -77,7 +77,7 @@ module _ (k i : ℕ) where
     past-none [] no_terms p = refl
     past-none {a} {n} (t ∷ ts) (term_then o os) p =
         let (q, e) = past-under a n t o p in
-        item_other t ts e ∙ past-none ts os q
+        item_other t ts e ∙ past-none {a = under a t} ts os q
 
     -- a line that is not of the item, behind one that is, is past it
     pub passed : (a : LineAbove) (n : ℕ) (t : TermLine) → TermInOrder h m a n t → a.kind ≡ k → a.item ≡ i → ((t.kind ≡ k) × (t.item ≡ i) → ⊥) → Past (under a t)
@@ -93,7 +93,7 @@ module _ (k i : ℕ) where
         → All (λ s. Lt word_order s.word a.word) (terms_of (item_terms k i ts))
     unfolding terms_of item_terms
     item-below [] no_terms x y = done
-    item-below {a} {n} (t ∷ ts) (term_then o os) x y = go (is_item t) (item-below ts os) (past-none ts os)
+    item-below {a} {n} (t ∷ ts) (term_then o os) x y = go (is_item t) (item-below {a = under a t} ts os) (past-none {a = under a t} ts os)
       where
         f : Follows a t.kind t.item t.word
         f = follows_is a t.kind t.item t.word o.order
@@ -117,7 +117,7 @@ module _ (k i : ℕ) where
         → Written (field_of h.p) word_order (terms_of (item_terms k i ts)) × InLetters (Letter h.letters) (terms_of (item_terms k i ts))
     unfolding terms_of item_terms
     item-written [] no_terms = (W.zero, done)
-    item-written {a} {n} (t ∷ ts) (term_then o os) = go (is_item t) (item-below ts os) (item-written ts os)
+    item-written {a} {n} (t ∷ ts) (term_then o os) = go (is_item t) (item-below {a = under a t} ts os) (item-written {a = under a t} ts os)
       where
         b : TermBounds h m t.kind t.item t.coef t.word
         b = term-bounds h m t.kind t.item t.coef t.word o.fits

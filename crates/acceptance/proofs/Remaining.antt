@@ -2,13 +2,13 @@
 -- and an item is not refused exactly if every line passes its test and the sum holds.
 use mathlib.Core.Path.{◌≡◌, refl, sym, ◌∙◌, ap}
 use mathlib.Core.Bool.{Bool, true, false, true≢false}
-use mathlib.Core.Logic.{◌↔◌, ◌⊎◌, inl, inr}
-use mathlib.Core.List.{List, [], ◌∷◌, ◌++◌, append-nil, cons≢nil, cons-eq-cons}
-use Prim.Native.Nat.{ℕ, ◌≤◌, ◌<◌}
+use mathlib.Core.Logic.{◌↔◌}
+use mathlib.Core.List.{List, [], ◌∷◌, ◌++◌, cons≢nil, cons-eq-cons}
+use Prim.Native.Nat.{ℕ, ◌≤◌}
 use native.Mathlib.Omega.{arith}
 use lib.Dec.{ltb}
 use lib.ListN.{length}
-use borrow.Author.Tests.{ltb-true, ltb-false, le-ltb}
+use borrow.Author.Tests.{ltb-true, ltb-false}
 use Rattle.field.specs.Field.{Operations, Field}
 use Rattle.field.proofs.Derived.{sub_self, mul-zero, eq_of_sub_eq_zero}
 use Rattle.lists.specs.All.{All, done, ◌also◌}
@@ -19,7 +19,6 @@ use Rattle.algebra.specs.Written.{Written, zero}
 use Rattle.algebra.specs.Ideal.{Family, Line, product, value}
 use Rattle.algebra.specs.Steps.{take_away}
 use Rattle.algebra.proofs.Coefficients.{coeff-nil, red-coeff, coeff-append, coeff-sub}
-use Rattle.algebra.proofs.Lines.{coeff-value-append}
 use Rattle.algebra.proofs.WrittenForm.{written_unique}
 use Rattle.algebra.proofs.Running.{take_away-coeff, take_away-written}
 use Rattle.package.specs.Sums.{SumLine}

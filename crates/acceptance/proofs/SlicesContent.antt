@@ -30,7 +30,6 @@ use Rattle.package.proofs.ItemStarts.{slots_kept}
 use Rattle.package.proofs.TermSlices.{kept-length}
 use Rattle.package.proofs.ReadingFacts.{kept_at, whole_package, whole-readable, whole_item}
 use Rattle.working.specs.Polynomial.{poly_term}
-use Rattle.working.specs.Working.{terms}
 use Rattle.working.specs.Family.{between, poly_between, family_at, Terms, Runs}
 use Rattle.working.proofs.Terms.{terms-length, terms_at}
 use Rattle.working.proofs.Between.{between-length}
@@ -42,7 +41,8 @@ use Rattle.acceptance.proofs.ReadableContent.{item_here, item_other, is_item, Pa
 terms_bounded : (h : Head) (m : Limits) {a : LineAbove} {n : ℕ} (ts : List TermLine) → TermsInOrder h m a n ts
     → All (λ t. TermBounds h m t.kind t.item t.coef t.word) ts
 terms_bounded h m [] no_terms = done
-terms_bounded h m (t ∷ ts) (term_then o os) = term-bounds h m t.kind t.item t.coef t.word o.fits also terms_bounded h m ts os
+terms_bounded h m {a = a} (t ∷ ts) (term_then o os) =
+    term-bounds h m t.kind t.item t.coef t.word o.fits also terms_bounded h m {a = under a t} ts os
 
 -- an item's start is no later than the next one's, and neither is past the end
 first_rises : (j : ℕ) (xs : List ℕ) → first_of j xs ≤ first_of (suc j) xs
@@ -133,7 +133,7 @@ module _ (k i : ℕ) (h : Head) (m : Limits) where
   items-few : {a : LineAbove} {n : ℕ} (ts : List TermLine) → TermsInOrder h m a n ts → so_far a ≤ m.terms → so_far a + length (item_terms k i ts) ≤ m.terms
   unfolding item_terms
   items-few [] no_terms l = omega arith
-  items-few {a} {n} (t ∷ ts) (term_then o os) l = go (is_item k i t) (items-few ts os) (past-none k i h m ts os)
+  items-few {a} {n} (t ∷ ts) (term_then o os) l = go (is_item k i t) (items-few {a = under a t} ts os) (past-none k i h m {a = under a t} ts os)
     where
       go : Dec ((t.kind ≡ k) × (t.item ≡ i)) → (so_far (under a t) ≤ m.terms → so_far (under a t) + length (item_terms k i ts) ≤ m.terms)
           → (Past k i (under a t) → item_terms k i ts ≡ []) → so_far a + length (item_terms k i (t ∷ ts)) ≤ m.terms

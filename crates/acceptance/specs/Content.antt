@@ -1,5 +1,5 @@
 -- What a package that reads holds: the field that p means, relations and basis as polynomials, and the lines of each sum.
-use Rattle.std.specs.Prelude.{Bool, true, false, List, [], ◌∷◌, ◌++◌, ℕ, zero, suc, eqb}
+use Rattle.std.specs.Prelude.{true, false, List, [], ◌∷◌, ℕ, zero, suc, eqb}
 use Rattle.algebra.specs.Poly.{Poly}
 use Rattle.algebra.specs.Ideal.{Line}
 use Rattle.package.specs.Names.{term_g, term_b}

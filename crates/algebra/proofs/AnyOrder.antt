@@ -13,12 +13,12 @@ use mathlib.Core.WellFounded.{Acc}
 use Prim.Native.Nat.{ℕ, ◌<◌}
 use Rattle.field.specs.Field.{Operations, Field}
 use Rattle.field.proofs.Derived.{mul-zero, sub_self, sub-add_self, neg-neg}
-use Rattle.lists.specs.All.{All, done, ◌also◌}
+use Rattle.lists.specs.All.{All, ◌also◌}
 use Rattle.words.specs.Word.{Word}
 use Rattle.words.specs.Order.{Order, Lt, Admissible}
 use Rattle.lists.proofs.Every.{all_map, all_of}
 use Rattle.words.proofs.Admissible.{lt-ne, trichotomy}
-use Rattle.algebra.specs.Poly.{Term, Poly, coeff, Same, scale, shift, sub}
+use Rattle.algebra.specs.Poly.{Term, Poly, coeff, shift, sub}
 use Rattle.algebra.specs.Written.{Written, zero, term, written}
 use Rattle.algebra.specs.Ideal.{Family, InIdeal}
 use Rattle.algebra.specs.Groebner.{lead, lead_coef, Inside, monic, Certified}

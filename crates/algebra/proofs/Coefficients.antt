@@ -4,14 +4,11 @@
 -- term has the word (`coeff-none`), and that a word with a coefficient is the word of a term (`support`). At the end left × f × right: its
 -- coefficient at left × word × right is f's at the word (`coeff-shift`), other words have none, so equal polynomials have equal multiples
 -- (`shift_same`).
-use mathlib.Core.Path.{◌≡◌, refl, sym, ◌∙◌, ap, ap₂}
+use mathlib.Core.Path.{◌≡◌, refl, sym, ◌∙◌, ap}
 use mathlib.Core.Bool.{Bool, true, false, true≢false}
 use mathlib.Core.Logic.{◌≢◌, ◌⊎◌, inl, inr}
-use mathlib.Core.List.{List, [], ◌∷◌, ◌++◌, append_assoc, append_cancel_left, append_cancel_right, cons-eq-cons, nil≢cons, cons≢nil}
+use mathlib.Core.List.{[], ◌∷◌, ◌++◌, append_assoc, append_cancel_left, append_cancel_right}
 use Prim.Native.Nat.{ℕ}
-use native.Mathlib.Decide.{ℕ_discrete}
-use lib.Dec.{eqb}
-use borrow.Author.Tests.{eq-eqb, eqb-true, ne_eqb}
 use Rattle.field.specs.Field.{Operations, Field}
 use Rattle.field.proofs.Derived.{red-zero, zero-add, mul-zero}
 use Rattle.lists.specs.All.{All, done, ◌also◌}

@@ -6,7 +6,7 @@
 -- coefficient of that multiple is not zero, m is the greatest word of the sum, and a leading word stands inside it. Where it is zero, only lines
 -- below m are left, and the next turn takes those (`descend`).
 use mathlib.Core.Path.{◌≡◌, refl, sym, ◌∙◌, ap}
-use mathlib.Core.Logic.{◌≢◌, ◌⊎◌, inl, inr}
+use mathlib.Core.Logic.{◌⊎◌, inl, inr}
 use mathlib.Core.List.{List, [], ◌∷◌, ◌++◌, append-nil}
 use mathlib.Core.WellFounded.Acc
 use Prim.Native.Nat.{ℕ}
@@ -20,7 +20,7 @@ use Rattle.lists.proofs.Every.{all_map, all_append, all_both, all_of}
 use Rattle.words.proofs.Admissible.{Le, le_lt_trans, trichotomy}
 use Rattle.algebra.specs.Poly.{Poly, coeff, Same, shift}
 use Rattle.algebra.specs.Ideal.{Family, Line, value}
-use Rattle.algebra.specs.Groebner.{lead, lead_coef, Led, Inside, monic, top, Resolved, GreatestInside}
+use Rattle.algebra.specs.Groebner.{lead, lead_coef, Led, monic, top, Resolved, GreatestInside}
 use Rattle.algebra.proofs.Coefficients.{red-coeff, coeff-shift}
 use Rattle.algebra.proofs.Lines.{shift-nil, times, coeff-value-cons, coeff-value-append, coeff_times}
 use Rattle.algebra.proofs.Leading.{coeff-monic-lead, coeff_unmonic, coeff-monic-above, below_times, coeff_resolved, coeff_no_poly, coeff-below}

@@ -10,7 +10,7 @@ use Rattle.words.specs.Word.{Word, around}
 use Rattle.words.specs.Order.{Order, Lt, Admissible}
 use Rattle.lists.proofs.Every.{all_map}
 use Rattle.words.proofs.Admissible.{Le, lt-ne, lt-around, le_lt_trans}
-use Rattle.algebra.specs.Poly.{Term, Poly, coeff, scale, shift, sub}
+use Rattle.algebra.specs.Poly.{Poly, coeff, scale, shift, sub}
 use Rattle.algebra.specs.Ideal.{Family, Line, value}
 use Rattle.algebra.specs.Groebner.{lead, lead_coef, Led, led, monic, top, Resolved}
 use Rattle.algebra.proofs.Coefficients.{where_same_lem, around-around, shift-words, coeff-nil, coeff-cons, red-coeff, coeff-append, coeff-scale, coeff-none}

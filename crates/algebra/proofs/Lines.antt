@@ -70,7 +70,7 @@ module _ {K : Operations} (F : Field K) (G : Family) where
       ≡ add (mul z.coef (coeff K (shift (x ++ z.left) (z.right ++ y) (G z.of)) w)) (coeff K (shift x y (value K G zs)) w)
   unfolding value product
   coeff-shift-value-cons x y z zs w =
-      rw (shift-append x y (product K G z) (value K G zs), coeff-append F, shift-scale, shift-shift, coeff-scale F)
+      rw (shift-append x y (product K G z) (value K G zs), coeff-append F, shift-scale, shift-shift x y z.left z.right (G z.of), coeff-scale F)
 
   -- the value of c × x × lines × y
   pub coeff_times : (c : ℕ) (x y : Word) (zs : List Line) (w : Word)

@@ -1,7 +1,7 @@
 -- A polynomial has at most one sequence of steps, since each step is given by `target`. So the step count of an answer is the length of the one sequence
 -- from the formula, and the answer is its end.
 use mathlib.Core.Path.{◌≡◌, refl, sym, ◌∙◌}
-use mathlib.Core.List.{List, [], ◌∷◌}
+use mathlib.Core.List.{List}
 use Prim.Native.Nat.{ℕ}
 use native.Mathlib.Omega.{arith}
 use lib.ListN.{length}

@@ -5,8 +5,8 @@
 -- Where v begins before u, the two are exchanged (`resolved_symm`). A leading word stands inside itself only as the whole of it, and then nothing is
 -- left to resolve (`inside_self`, `resolved_refl`).
 use mathlib.Core.Path.{◌≡◌, refl, sym, ◌∙◌, ap}
-use mathlib.Core.Logic.{◌≢◌, ◌⊎◌, inl, inr}
-use mathlib.Core.List.{List, [], ◌∷◌, ◌++◌, append_assoc, append-nil, cons≢nil, cons-eq-cons}
+use mathlib.Core.Logic.{◌⊎◌, inl, inr}
+use mathlib.Core.List.{[], ◌∷◌, ◌++◌, append_assoc, append-nil, cons≢nil, cons-eq-cons}
 use Prim.Native.Nat.{ℕ}
 use native.Mathlib.Decide.{ℕ_discrete}
 use native.Mathlib.Omega.{arith}
@@ -16,9 +16,9 @@ use Rattle.field.proofs.Derived.{one_mul, sub_self, sub-add_self}
 use Rattle.lists.specs.All.{done}
 use Rattle.words.specs.Word.{Word, around}
 use Rattle.words.specs.Order.{Order, Admissible}
-use Rattle.algebra.specs.Poly.{coeff, scale, shift, sub}
+use Rattle.algebra.specs.Poly.{sub}
 use Rattle.algebra.specs.Ideal.{Family, value}
-use Rattle.algebra.specs.Groebner.{lead, Led, monic, Resolved, Overlaps, Inclusions}
+use Rattle.algebra.specs.Groebner.{lead, Led, Resolved, Overlaps, Inclusions}
 use Rattle.algebra.proofs.Coefficients.{around-around, coeff-nil, red-coeff, coeff-sub, shift_same}
 use Rattle.algebra.proofs.Lines.{shift-nil, shift-append, shift-shift, shift-scale, times, coeff_times}
 use Rattle.algebra.proofs.Leading.{coeff_resolved, below_times}

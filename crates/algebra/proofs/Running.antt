@@ -4,9 +4,8 @@
 -- on its steps: its end is in written form with no leading word inside, and the lines taken away add up to the difference (`sequence_ran`, for any
 -- property of words and one of lines that the steps keep). With words in the package's letters for that property: the lines are over the letters
 -- (`sequence_over`), the end is in them (`sequence_letters`), and under an accepted basis the end is the short form (`sequence_short`).
-use mathlib.Core.Path.{◌≡◌, refl, sym, ◌∙◌, ap}
+use mathlib.Core.Path.{◌≡◌, refl, sym, ◌∙◌}
 use mathlib.Core.Bool.{Bool, true, false}
-use mathlib.Core.Logic.{◌≢◌, ◌⊎◌, inl, inr}
 use mathlib.Core.List.{List, [], ◌∷◌, ◌++◌}
 use Prim.Native.Nat.{ℕ, zero, suc, ◌+◌}
 use native.Mathlib.Omega.{arith}
@@ -15,17 +14,17 @@ use lib.ListN.{length}
 use Rattle.field.specs.Field.{Operations, Field}
 use Rattle.field.proofs.Derived.{neg-eq-mul, sub_self, add-sub-add_cancel}
 use Rattle.lists.specs.All.{All, done, ◌also◌}
-use Rattle.words.specs.Word.{Word, around}
+use Rattle.words.specs.Word.{Word}
 use Rattle.words.specs.Order.{Order, Admissible}
-use Rattle.lists.proofs.Every.{all_map, all_append, all_split}
+use Rattle.lists.proofs.Every.{all_map, all_split}
 use Rattle.algebra.specs.Poly.{Term, Poly, coeff, Same, scale, shift, sub, InLetters}
 use Rattle.algebra.specs.Written.{Written}
 use Rattle.algebra.specs.Ideal.{Family, family, Line, product, value, Over}
-use Rattle.algebra.specs.Groebner.{lead, Led, Inside}
+use Rattle.algebra.specs.Groebner.{lead}
 use Rattle.algebra.specs.Short.{Reduced, Accepted, Short}
-use Rattle.algebra.specs.Spot.{spot, nowhere, found, Target, reduced, reducible, target}
+use Rattle.algebra.specs.Spot.{spot, found, Target, reduced, reducible, target}
 use Rattle.algebra.specs.Steps.{take_away, line_at, stepped, Sequence, ended, step, Ended, answer, over, spent, onward, run}
-use Rattle.algebra.proofs.Coefficients.{scale-words, shift-letters, coeff-nil, red-coeff, coeff-append, coeff-scale, coeff-sub}
+use Rattle.algebra.proofs.Coefficients.{scale-words, shift-letters, coeff-nil, coeff-append, coeff-scale, coeff-sub}
 use Rattle.algebra.proofs.Sums.{ideal_trans}
 use Rattle.algebra.proofs.Leading.{led-ne-nil}
 use Rattle.algebra.proofs.Insertion.{plus-coeff, plus-written, plus-words}

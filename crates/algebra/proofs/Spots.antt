@@ -9,7 +9,7 @@ use mathlib.Core.List.{List, [], ◌∷◌, ◌++◌, cons≢nil}
 use Prim.Native.Nat.{ℕ, zero, suc, ◌+◌, ◌<◌}
 use native.Mathlib.Omega.{arith}
 use lib.ListN.{length, take, drop}
-use lib.Seq.{take_at, drop_at, take-append_seam, drop-append_seam, drop-append-add}
+use lib.Seq.{take_at, drop-append_seam, drop-append-add}
 use Rattle.lists.specs.All.{All, done, ◌also◌}
 use Rattle.words.specs.Word.{Word, around}
 use Rattle.words.specs.Place.{Stands}
@@ -17,7 +17,7 @@ use Rattle.algebra.specs.Poly.{Term, Poly}
 use Rattle.algebra.specs.Ideal.{family}
 use Rattle.algebra.specs.Groebner.{lead}
 use Rattle.algebra.specs.StepRule.{LeadStands, LeadInside, LeftmostLead}
-use Rattle.algebra.specs.Spot.{first_begins, Spot, nowhere, found, spot_at, spot_from, spot, Target, reduced, reducible, target_of, target}
+use Rattle.algebra.specs.Spot.{first_begins, Spot, nowhere, found, spot_at, spot_from, spot, reduced, reducible, target_of, target}
 use Rattle.algebra.proofs.LowestNumber.{number-lowest, number-none}
 
 module _ (ps : List Poly) where

@@ -1,5 +1,5 @@
 -- The sums over a family are closed under what an ideal is closed under, and "differ by such a sum" is an equivalence.
-use mathlib.Core.Path.{◌≡◌, refl, sym, ◌∙◌}
+use mathlib.Core.Path.{refl, sym, ◌∙◌}
 use mathlib.Core.List.{List, [], ◌∷◌, ◌++◌}
 use Prim.Native.Nat.{ℕ}
 use Rattle.field.specs.Field.{Operations, Field}
@@ -7,7 +7,7 @@ use Rattle.field.proofs.Derived.{one_mul, sub_self, sub_add_sub_cancel, neg-sub}
 use Rattle.lists.specs.All.{All, done, ◌also◌}
 use Rattle.words.specs.Word.{Word}
 use Rattle.lists.proofs.Every.{all_map, all_append}
-use Rattle.algebra.specs.Poly.{Poly, coeff, Same, scale, shift, sub}
+use Rattle.algebra.specs.Poly.{Poly, Same, scale, shift, sub}
 use Rattle.algebra.specs.Ideal.{Family, Line, product, value, Over, InIdeal}
 use Rattle.algebra.proofs.Coefficients.{coeff-nil, red-coeff, coeff-append, coeff-scale, coeff-sub, shift_same}
 use Rattle.algebra.proofs.Lines.{shift-nil, times, over_times, coeff-value-cons, coeff-value-append, coeff_times}

@@ -1,12 +1,12 @@
 -- Under a certified basis a nonzero sum over the basis has a greatest word that holds a leading word; so short forms are unique, and two formulas
 -- have the same one exactly if they differ by a sum over the relations.
-use mathlib.Core.Path.{◌≡◌, sym}
+use mathlib.Core.Path.{◌≡◌}
 use mathlib.Core.Logic.{◌⊎◌, inl, inr, ◌↔◌, ◌≢◌}
 use mathlib.Core.List.{[], ◌++◌, append-nil}
 use Prim.Native.Nat.{ℕ}
 use Rattle.field.specs.Field.{Operations, Field}
 use Rattle.field.proofs.Derived.{add_add_add_comm, mul_left_comm}
-use Rattle.lists.specs.All.{All, done}
+use Rattle.lists.specs.All.{done}
 use Rattle.words.specs.Word.{Word}
 use Rattle.words.specs.Order.{Order, Admissible}
 use Rattle.lists.proofs.Every.{all_append}

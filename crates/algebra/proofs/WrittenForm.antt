@@ -3,9 +3,9 @@
 -- one polynomial begin with the same term, and so on behind it (`written_unique`). The computed written form is the one (`is_written`), and two
 -- formal sums are equal as polynomials exactly if theirs are one list (`same_iff_written`). The rest is what code needs: properties of all words
 -- (`written_all`), the written form by index (`written_by_index`), multiples of one (`written_multiple`), and factors that change nothing (`scale_kept`).
-use mathlib.Core.Path.{◌≡◌, refl, sym, ◌∙◌, ap, ap₂, subst}
+use mathlib.Core.Path.{◌≡◌, refl, sym, ◌∙◌, ap, ap₂}
 use mathlib.Core.Logic.{◌≢◌, ◌⊎◌, inl, inr, ◌↔◌}
-use mathlib.Core.List.{List, [], ◌∷◌, ◌++◌}
+use mathlib.Core.List.{[], ◌∷◌, ◌++◌}
 use Prim.Native.Nat.{ℕ, suc, ◌<◌}
 use native.Mathlib.Omega.{arith}
 use lib.ListN.{length, get_or}

@@ -1,5 +1,5 @@
 -- Polynomials as formal sums: lists of terms, in any order, with words repeated at will.
-use Rattle.std.specs.Prelude.{◌≡◌, Bool, true, false, List, [], ◌∷◌, ◌++◌, ℕ, eqb}
+use Rattle.std.specs.Prelude.{◌≡◌, true, false, List, [], ◌∷◌, ◌++◌, ℕ}
 use Rattle.lists.specs.Same.{same}
 use Rattle.field.specs.Field.{Operations}
 use Rattle.lists.specs.All.{All}

@@ -1,7 +1,6 @@
 -- Steps and sums as they are computed (document 01, 'Steps' and 'Facts of acceptance'): a line is taken away from a polynomial in written form.
 use Rattle.std.specs.Prelude.{◌≡◌, true, false, List, [], ◌∷◌, ℕ, zero, suc, ◌+◌, ltb, length, take, drop}
 use Rattle.field.specs.Field.{Operations}
-use Rattle.words.specs.Word.{Word}
 use Rattle.words.specs.Order.{Order}
 use Rattle.algebra.specs.Poly.{Term, Poly, scale, shift}
 use Rattle.algebra.specs.Written.{plus}

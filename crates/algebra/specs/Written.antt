@@ -1,6 +1,6 @@
 -- The written form of a polynomial (document 01, 'Words and polynomials'): distinct words, greatest first, with coefficients that are elements other than 0.
 -- It is the canonical form of a polynomial: each has exactly one (`written-written` and `written-coeff`, `written_unique`).
-use Rattle.std.specs.Prelude.{true, false, ◌≢◌, List, [], ◌∷◌, ℕ, ◌<◌, eqb}
+use Rattle.std.specs.Prelude.{true, false, ◌≢◌, [], ◌∷◌, ℕ, ◌<◌, eqb}
 use Rattle.field.specs.Field.{Operations}
 use Rattle.words.specs.declared.Comparison.TheVariants.{Below, Equal, Above}
 use Rattle.lists.specs.All.{All}

@@ -1,5 +1,6 @@
 // The services check, short form and membership: the answer of accept or reduce, with the table and the working arrays that they need, as the struct
 // that C sees.
+#![tactic(auto)]
 
 pub mod check;
 pub mod member;

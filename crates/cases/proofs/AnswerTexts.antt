@@ -1,5 +1,5 @@
 -- The text of an answer, by the letter of its service, and what the services with an output slice leave in it.
-use mathlib.Core.Path.{◌≡◌}
+use mathlib.Core.Path.{◌≡◌, ap, ◌∙◌}
 use mathlib.Core.Bool.{Bool}
 use mathlib.Core.List.{List, [], ◌∷◌, ◌++◌}
 use Prim.Native.Nat.{ℕ, ◌+◌, ◌≤◌}
@@ -60,14 +60,29 @@ module _ (head bytes text : List ℕ) where
 pub listed_text_lem : (bytes out₀ out : List ℕ) (room n : ℕ) (a : Listed) → n ≡ room → out₀ ≡ tildes → a ≡ listed_as bytes n → out ≡ listed_into bytes (take n out₀) ++ drop n out₀
     → output_text a.number a.place a.overlaps a.written out ≡ listed_text bytes room
 unfolding listed_text
-listed_text_lem bytes out₀ out room n a p q e f = rw (f, e, q, p)
+listed_text_lem bytes out₀ out room n a p q e f =
+    ap (λ (x : Listed). output_text x.number x.place x.overlaps x.written out) e
+    ∙ ap (told n) f
+    ∙ ap (λ (o : List ℕ). told n (listed_into bytes (take n o) ++ drop n o)) q
+    ∙ ap (λ (k : ℕ). told k (listed_into bytes (take k tildes) ++ drop k tildes)) p
+  where
+    told : ℕ → List ℕ → List ℕ
+    told k o = let x = listed_as bytes k in output_text x.number x.place x.overlaps x.written o
 
 -- The short form service's answer and its output slice give its text.
 pub shortened_text_lem : (bytes text out₀ out : List ℕ) (budget room m n : ℕ) (a : Shortened) → m ≡ budget → n ≡ room → out₀ ≡ tildes → a ≡ shortened_as bytes text m n
     → out ≡ shortened_into bytes text m (take n out₀) ++ drop n out₀
     → output_text a.number a.place a.steps a.written out ≡ shortened_text bytes text budget room
 unfolding shortened_text
-shortened_text_lem bytes text out₀ out budget room m n a o p q e f = rw (f, e, q, p, o)
+shortened_text_lem bytes text out₀ out budget room m n a b p q e f =
+    ap (λ (x : Shortened). output_text x.number x.place x.steps x.written out) e
+    ∙ ap (told m n) f
+    ∙ ap (λ (o : List ℕ). told m n (shortened_into bytes text m (take n o) ++ drop n o)) q
+    ∙ ap (λ (k : ℕ). told m k (shortened_into bytes text m (take k tildes) ++ drop k tildes)) p
+    ∙ ap (λ (k : ℕ). told k room (shortened_into bytes text k (take room tildes) ++ drop room tildes)) b
+  where
+    told : ℕ → ℕ → List ℕ → List ℕ
+    told j k o = let x = shortened_as bytes text j k in output_text x.number x.place x.steps x.written o
 
 -- The answer of the test whether a word stands at a place gives its text.
 pub standing-text : (b w : Word) (place at compared y : ℕ) (t : Bool) → at ≡ place → t ≡ stands_at b w at → compared ≡ compared_at b w at → y ≡ yes_number t

@@ -1,10 +1,11 @@
 // The terms of a polynomial, closed up: those whose coefficient is 0 are dropped.
+#![tactic(auto)]
 
 ghost use Rattle.std.specs.Prelude.{◌≡◌, ◌≤◌, length, take};
 ghost use Rattle.closing.specs.Closing.{kept, closed};
 
 // A term: its coefficient, and where its word starts in the bytes and how long it is.
-#[derive(Drop)]
+#[derive(Clone, Copy)]
 pub struct Term {
     pub coef: u32,
     pub start: usize,
@@ -22,7 +23,8 @@ pub fn close_up(terms: &mut [Term], n: usize) -> usize
     let mut i: usize = 0;
     while i < n {
         let t = terms[i];
-        if t.coef != 0 {
+        let stays = t.coef != 0;
+        if stays {
             terms[j] = t;
             j += 1;
         }

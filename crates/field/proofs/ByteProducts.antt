@@ -3,7 +3,7 @@
 use mathlib.Core.Path.{◌≡◌, refl, sym, ◌∙◌, ap}
 use mathlib.Core.Logic.{◌≢◌}
 use Prim.Native.Nat.{ℕ, zero, suc, ◌+◌, ◌*◌, ◌/◌, ◌%◌, ◌<◌}
-use native.Mathlib.Nat.{mod-eq_of_lt, add_comm, zero-add, suc-add, zero-mul, one_mul, mul-zero, suc-mul, mul_comm}
+use native.Mathlib.Nat.{mod-eq_of_lt, add_comm, zero-add, suc-add, zero-mul, one-mul, mul-zero, suc-mul, mul_comm}
 use native.Mathlib.Decide.{ℕ_discrete}
 use native.Mathlib.Omega.{arith}
 use lib.Dec.{eqb, eqb→eq}
@@ -45,7 +45,7 @@ bit_byte (suc (suc i)) b p q = absurd (omega arith)
 
 bit-x : (i b : ℕ) → i < 2 → i * times_x b ≡ times_x (i * b)
 bit-x zero b p = zero-mul (times_x b) ∙ sym (ap times_x (zero-mul b) ∙ x-zero)
-bit-x (suc zero) b p = one_mul (times_x b) ∙ sym (ap times_x (one_mul b))
+bit-x (suc zero) b p = one-mul (times_x b) ∙ sym (ap times_x (one-mul b))
 bit-x (suc (suc i)) b p = absurd (omega arith)
 
 pub times_byte : (k a b : ℕ) → b < 256 → byte_times k a b < 256

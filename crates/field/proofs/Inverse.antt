@@ -2,7 +2,7 @@
 use mathlib.Core.Path.{◌≡◌, refl, sym, ◌∙◌, ap}
 use mathlib.Core.Logic.{◌≢◌, if_pos, if_neg}
 use Prim.Native.Nat.{ℕ, zero, suc, ◌-◌, ◌*◌, ◌/◌, ◌%◌, ◌≤◌, ◌<◌}
-use native.Mathlib.Nat.{mod-lt, mod-eq_of_lt, mul_assoc, mul_one}
+use native.Mathlib.Nat.{mod-lt, mod-eq_of_lt, mul_assoc, mul-one}
 use native.Mathlib.Decide.{dec_lt}
 use native.Mathlib.Omega.{arith}
 use Rattle.field.specs.Field.{Operations, inverse_mod, modular, field_of}
@@ -60,7 +60,7 @@ module _ (p : ℕ) where
   inverse-start r h = ap (λ (x : ℕ). x % p) (omega arith) ∙ mod-eq_of_lt (inverse-lt r r h)
 
   pub inverse-end : (f r : ℕ) → f < p → r ≤ 1 → f * inverse_mod p r r % p ≡ f
-  inverse-end f r h l = ap (λ (x : ℕ). f * x % p) (last-inverse r r l) ∙ ap (λ (x : ℕ). x % p) (mul_one f) ∙ mod-eq_of_lt h
+  inverse-end f r h l = ap (λ (x : ℕ). f * x % p) (last-inverse r r l) ∙ ap (λ (x : ℕ). x % p) (mul-one f) ∙ mod-eq_of_lt h
 
   -- what `field_of p` says of it
   pub inverse-mod : (a : ℕ) → p ≢ 256 → a < p → inverse_mod p a a ≡ (field_of p).inv a

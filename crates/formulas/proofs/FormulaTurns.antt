@@ -17,7 +17,6 @@ use Rattle.package.specs.declared.Limits.{Limits}
 use Rattle.text.proofs.Cutting.{cut-more, cut-end}
 use Rattle.lists.specs.Same.{same}
 use Rattle.text.specs.Pieces.{pieces, lines, stop, part}
-use Rattle.text.specs.Word.{word}
 
 module _ (p letters : ℕ) (lim : Limits) (v : List ℕ) (ts : List Term) (line : ℕ) (s : List ℕ) (at : ℕ) where
   pub rows_end : length s ≤ at → formula ts ≡ rows p letters lim v ts line (lines (drop at s))

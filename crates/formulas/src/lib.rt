@@ -1,3 +1,4 @@
 // The reader of formulas: the line of refusal 16, or the terms in lent slices.
+#![tactic(auto)]
 
 pub mod formula;

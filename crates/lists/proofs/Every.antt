@@ -40,5 +40,6 @@ module _ {A : Type 0} {P : A → Type 0} where
 
   -- what holds of every element holds of a member
   pub all-member : {xs : List A} {x : A} → All P xs → Memᴰ x xs → P x
+  all-member done x6 = elim x6 [ ]
   all-member (p also ps) (Memᴰ.head e) = subst P (sym e) p
   all-member (p also ps) (Memᴰ.tail m) = all-member ps m

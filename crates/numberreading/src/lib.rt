@@ -1,3 +1,4 @@
 // Numbers read as fields of a line, from a place on.
+#![tactic(auto)]
 
 pub mod number;

@@ -2,7 +2,7 @@
 use mathlib.Core.Path.{◌≡◌, sym, ◌∙◌, ap}
 use mathlib.Core.List.{List, [], ◌∷◌}
 use Prim.Native.Nat.{ℕ, suc, ◌+◌, ◌-◌, ◌*◌, ◌≤◌}
-use native.Mathlib.Nat.{mul_comm, mul-add, mul_one, mul-zero, mul-le-mul}
+use native.Mathlib.Nat.{mul_comm, mul-add, mul-one, mul-zero, mul-le-mul}
 use native.Mathlib.Numerals.{add-one}
 use native.Mathlib.Omega.{arith}
 use lib.ListN.{length, length-append}
@@ -26,7 +26,7 @@ two_most : (u v : Word) (i j : ℕ) → length u ≤ 24 → length v ≤ 24 → 
 two_most u v i j h k = omega (arith, given_few sharing u v i j, given_few placing u v i j, places-most (length u) (length v) i j)
 
 suc_times : (n x : ℕ) → suc n * x ≡ x + n * x
-suc_times n x = mul_comm (suc n) x ∙ ap (λ (k : ℕ). x * k) (sym (add-one n)) ∙ mul-add x n 1 ∙ omega (arith, mul_one x, mul_comm x n)
+suc_times n x = mul_comm (suc n) x ∙ ap (λ (k : ℕ). x * k) (sym (add-one n)) ∙ mul-add x n 1 ∙ omega (arith, mul-one x, mul_comm x n)
 
 -- those of one first word
 row-most : (u : Word) (i : ℕ) (vs : List Word) (j : ℕ) → length u ≤ 24 → All (λ w. length w ≤ 24) vs

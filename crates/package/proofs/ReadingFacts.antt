@@ -12,7 +12,6 @@ use Rattle.package.proofs.ItemStarts.{slots_kept}
 use Rattle.package.proofs.LineBounds.{HeadBounds, head-bounds}
 use Rattle.package.proofs.PackageTexts.{reads-written}
 use Rattle.package.proofs.TermSlices.{kept-length}
-use Rattle.package.specs.Head.{head}
 use Rattle.package.specs.Held.{held_term, held_terms, seen_all, StartsMarked}
 use Rattle.package.specs.Items.{slot, slots_of, first_of, item_terms}
 use Rattle.package.specs.Names.{term_g, term_b}

@@ -13,7 +13,6 @@ use Rattle.package.specs.Writing.{sum_lines_of}
 use Rattle.package.specs.declared.Head.{Head}
 use Rattle.package.specs.declared.Limits.{Limits}
 use Rattle.text.proofs.PieceTexts.{joined-pieces}
-use Rattle.text.specs.Number.{digits}
 use Rattle.text.specs.Pieces.{Pieces, final, piece, fields, write_fields}
 
 -- A line that is accepted says a sum line in order.

@@ -5,7 +5,6 @@ use mathlib.Core.List.{List}
 use Prim.Native.Nat.{ℕ, zero, suc, ◌≤◌, ◌<◌}
 use native.Mathlib.Omega.{arith}
 use Rattle.package.proofs.SumLines.{sum-kind, sum-item, sum-coef, sum_left, sum_of, sum-right, sum-whole}
-use Rattle.package.specs.Examples.{cut}
 use Rattle.package.specs.Names.{sum_kinds, sum_b, sum_o}
 use Rattle.package.specs.Sums.{no_sum, sum, sum_form}
 use Rattle.package.specs.Writing.{sum_fields}

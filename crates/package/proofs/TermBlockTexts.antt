@@ -19,7 +19,6 @@ use Rattle.lists.proofs.Sameness.{same-eq}
 use Rattle.text.proofs.PieceTexts.{joined-pieces}
 use Rattle.lists.specs.Same.{same}
 use Rattle.text.specs.Pieces.{Pieces, final, piece, fields, write_fields}
-use Rattle.text.specs.Word.{word}
 
 -- A line that is accepted is the text of a term in order.
 module _ (h : Head) (lim : Limits) (a : LineAbove) (n : ℕ) (l : List ℕ) (k i c : ℕ) (w : List ℕ) (e : judge_term h lim a n l ≡ accept k i c w) where

@@ -9,7 +9,6 @@ use lib.ListN.{length, get_or, set, length-append}
 use lib.Seq.{get_or-set_same, get_or-set_other}
 use Rattle.package.specs.Held.{held_terms, WordsInside}
 use Rattle.text.specs.Pieces.{part}
-use Rattle.text.specs.Word.{word}
 
 module _ (s ks is cs os ls : List ℕ) where
   pub kept-length : (n : ℕ) → length (held_terms s ks is cs os ls n) ≡ n

@@ -5,7 +5,6 @@ use mathlib.Core.List.{List}
 use Prim.Native.Nat.{ℕ, zero, suc, ◌≤◌, ◌<◌}
 use native.Mathlib.Omega.{arith}
 use Rattle.package.proofs.TermLines.{form-kind, form-item, form-coef, form-word, form-term}
-use Rattle.package.specs.Examples.{cut}
 use Rattle.package.specs.Names.{sum_names, term_kinds, term_g, term_b}
 use Rattle.package.specs.Terms.{no_term, term, term_form}
 use Rattle.package.specs.Writing.{term_fields}

@@ -2,14 +2,12 @@
 use Rattle.std.specs.Prelude.{◌≡◌, refl, Bool, true, false, List, [], ◌∷◌, ◌++◌, map, ℕ, zero, suc, ◌-◌, eqb, length, take, drop, set, replicate}
 use Prim.Native.String.{String}
 use Rattle.package.specs.Formula.{FormulaOutcome, wrong_at, formula, read_formula}
-use Rattle.package.specs.Head.{head}
 use Rattle.package.specs.Names.{term_g, term_b, sum_b, sum_g, sum_o}
 use Rattle.package.specs.Package.{Package, Outcome, refused, read, package_limits, read_package}
 use Rattle.package.specs.Sums.{SumLine}
 use Rattle.package.specs.Terms.{TermLine}
 use Rattle.text.specs.Ascii.{ascii}
 use Rattle.text.specs.Number.{write_number}
-use Rattle.text.specs.Word.{word}
 
 -- A text from its lines, each ended by byte 10.
 unfoldable pub text : List (List ℕ) → List ℕ

@@ -26,7 +26,6 @@ use Rattle.package.specs.declared.TermRead.{TermRead}
 use Rattle.package.specs.declared.TermsEnded.{TermsEnded}
 use Rattle.text.specs.Field.{GotWord, none_word, some_word}
 use Rattle.text.specs.Pieces.{Pieces, final, piece, pieces, lines, fields, part}
-use Rattle.text.specs.Word.{word}
 use Rattle.text.specs.declared.WordAt.{WordAt}
 use Rattle.text.specs.declared.WordAt.TheVariants.{Spans}
 

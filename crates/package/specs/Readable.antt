@@ -10,8 +10,6 @@ use Rattle.package.specs.Terms.{TermLine, term_fits, LineAbove, start, follows, 
 use Rattle.package.specs.declared.Head.{Head}
 use Rattle.package.specs.declared.Limits.{Limits}
 use Rattle.text.specs.Bytes.{within}
-use Rattle.text.specs.Number.{digits}
-use Rattle.text.specs.Word.{word}
 
 -- What is known of a term line when the next one is judged.
 abbrev pub under : LineAbove → TermLine → LineAbove

@@ -1,8 +1,9 @@
 // What packages and formulas are, as definitions (specs/) and laws about them (proofs/), with the types that definitions and readers share.
 // The readers are in crates linetests, termreading, sumreading, reading and formulas.
+#![tactic(auto)]
 
 // A refusal: its number, and the line that it names, or 0 where it names none.
-#[derive(Drop)]
+#[derive(Clone, Copy)]
 pub struct Refusal {
     pub number: u32,
     pub place: usize,
@@ -24,7 +25,7 @@ pub const SUM_G: u32 = 2;
 pub const SUM_O: u32 = 3;
 
 // The value line of block 1: p, which means a field, the number of letters, of relations and of basis polynomials.
-#[derive(Drop)]
+#[derive(Clone, Copy)]
 pub struct Head {
     pub p: u32,
     pub letters: u32,
@@ -33,21 +34,21 @@ pub struct Head {
 }
 
 // How many terms a polynomial has at most, and how many letters a word.
-#[derive(Drop)]
+#[derive(Clone, Copy)]
 pub struct Limits {
     pub terms: usize,
     pub len: usize,
 }
 
 // Whether a line is the names line that is wanted: no, or where the line behind it starts.
-#[derive(Drop)]
+#[derive(Clone, Copy)]
 pub enum NamesRead {
     Misshapen,
     Next(usize),
 }
 
 // What a line says as the value line of block 1.
-#[derive(Drop)]
+#[derive(Clone, Copy)]
 pub enum HeadRead {
     Misshapen,
     Counts {
@@ -59,21 +60,21 @@ pub enum HeadRead {
 }
 
 // The counts of line 2, and where the line behind it starts.
-#[derive(Drop)]
+#[derive(Clone, Copy)]
 pub struct CountsAt {
     pub head: Head,
     pub at: usize,
 }
 
 // What line 2 is read as.
-#[derive(Drop)]
+#[derive(Clone, Copy)]
 pub enum CountsRead {
     Refused(Refusal),
     Read(CountsAt),
 }
 
 // What the head lines leave: the counts, and the place and the number of the first line of block 2.
-#[derive(Drop)]
+#[derive(Clone, Copy)]
 pub struct HeadAt {
     pub head: Head,
     pub at: usize,
@@ -81,14 +82,14 @@ pub struct HeadAt {
 }
 
 // What the head lines are read as.
-#[derive(Drop)]
+#[derive(Clone, Copy)]
 pub enum HeadEnded {
     Refused(Refusal),
     Read(HeadAt),
 }
 
 // What a line says as a term line: its word is the len letters from start on.
-#[derive(Drop)]
+#[derive(Clone, Copy)]
 pub enum TermRead {
     Misshapen,
     Shaped {
@@ -101,7 +102,7 @@ pub enum TermRead {
 }
 
 // What a term line is judged: refused by a number, or in order.
-#[derive(Drop)]
+#[derive(Clone, Copy)]
 pub enum TermJudged {
     Refused(u32),
     Accepted {
@@ -114,7 +115,7 @@ pub enum TermJudged {
 }
 
 // The term line above: its kind and item, its word as len letters from start on, and how many terms its item has so far.
-#[derive(Drop)]
+#[derive(Clone, Copy)]
 pub struct Last {
     pub kind: u32,
     pub item: u32,
@@ -124,7 +125,7 @@ pub struct Last {
 }
 
 // What block 2 leaves: the number of its terms, and the place and the number of the line below the names line of block 3.
-#[derive(Drop)]
+#[derive(Clone, Copy)]
 pub struct TermsAt {
     pub terms: usize,
     pub at: usize,
@@ -132,14 +133,14 @@ pub struct TermsAt {
 }
 
 // What block 2 is read as.
-#[derive(Drop)]
+#[derive(Clone, Copy)]
 pub enum TermsEnded {
     Refused(Refusal),
     Read(TermsAt),
 }
 
 // What the line at a place of a text says as a sum line: its words are the letters from left and from right on, and the line behind it starts at next.
-#[derive(Drop)]
+#[derive(Clone, Copy)]
 pub enum SumRead {
     Misshapen,
     Sum {
@@ -156,21 +157,21 @@ pub enum SumRead {
 }
 
 // What a sum line is judged: refused by a number, or in order, with its kind and item, and where the line behind it starts.
-#[derive(Drop)]
+#[derive(Clone, Copy)]
 pub enum SumJudged {
     Refused(u32),
     Accepted { kind: u32, item: u32, next: usize },
 }
 
 // What block 3 is judged.
-#[derive(Drop)]
+#[derive(Clone, Copy)]
 pub enum SumsEnded {
     Refused(Refusal),
     Sound,
 }
 
 // What a package is read as: refused, or its counts, the number of its terms, and the place and number of the first sum line.
-#[derive(Drop)]
+#[derive(Clone, Copy)]
 pub enum Reading {
     Refused(Refusal),
     Whole {
@@ -182,14 +183,14 @@ pub enum Reading {
 }
 
 // What a line says as a term of a formula: refused, whatever is wrong, or its word is the len letters from start on.
-#[derive(Drop)]
+#[derive(Clone, Copy)]
 pub enum RowRead {
     Refused,
     Row { coef: u32, start: usize, len: usize },
 }
 
 // What a formula is read as: refused at a line, or the number of its terms.
-#[derive(Drop)]
+#[derive(Clone, Copy)]
 pub enum FormulaRead {
     Refused(usize),
     Formula(usize),

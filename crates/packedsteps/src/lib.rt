@@ -1,5 +1,6 @@
 // Steps on the working formula with packed words: a word cut where a leading word stands, one step with the line that it takes away, and steps one
 // after the other within a budget.
+#![tactic(auto)]
 
 pub mod advance;
 pub mod cutting;
@@ -10,7 +11,7 @@ pub mod step;
 
 // Where a step applies: the term's number, the leftmost place of a leading word in its word, and the number, from 1, of the polynomial that it
 // leads; or nowhere.
-#[derive(Drop)]
+#[derive(Clone, Copy)]
 pub enum Next {
     Reduced,
     Reducible {
@@ -21,7 +22,7 @@ pub enum Next {
 }
 
 // A word cut at a leading word: the item that the leading word leads, and the sizes of what stands left and right of it.
-#[derive(Drop)]
+#[derive(Clone, Copy)]
 pub struct Cut {
     pub item: usize,
     pub left: usize,
@@ -29,7 +30,7 @@ pub struct Cut {
 }
 
 // A step that was made: how many terms there then are, the coefficient of the line that was taken away, and the sizes of its words.
-#[derive(Drop)]
+#[derive(Clone, Copy)]
 pub struct Stepped {
     pub terms: usize,
     pub coef: u32,
@@ -39,7 +40,7 @@ pub struct Stepped {
 
 // One step of a run: nothing is left to be done; the budget is spent; the step leaves over 512 terms; or it was made at a term, with the polynomial
 // of a number, and leaves so many terms. The line taken away has the coefficient, and words of the sizes left and right.
-#[derive(Drop)]
+#[derive(Clone, Copy)]
 pub enum Advanced {
     Reduced,
     Spent,
@@ -55,7 +56,7 @@ pub enum Advanced {
 }
 
 // How running ends: with an answer of so many terms after so many steps; with a step that leaves over 512 terms; or with the budget spent.
-#[derive(Drop)]
+#[derive(Clone, Copy)]
 pub enum Ran {
     Answer { terms: usize, steps: u32 },
     Over { step: u32 },

@@ -21,6 +21,7 @@ behind_lower A {u} {v} h (past {s = s} p b) = past (A.trans v u s.word h p) (beh
 
 pub behind_inserted : (K : Operations) (O : Order) (x : ℕ) (u : Word) (k : ℕ) (f : Poly) → Behind O u k f → Behind O u k (insert K O (single x u) f)
 behind_inserted K O x u zero f none = none
+behind_inserted K O x u (suc k) [] b = elim b [ ]
 behind_inserted K O x u (suc k) (s ∷ f) (past p b) =
     rw (insert-behind K O (single x u) (s ∷ []) f (p also done)) (past p (behind_inserted K O x u k f b))
 
@@ -35,6 +36,7 @@ module _ (O : Order) (u : Word) (F : ℕ → Term) where
   by_number-behind : (k i n : ℕ) → Behind O u k (terms F i n) → (k ≤ n) × ((j : ℕ) → i ≤ j → j < i + k → Lt O u (F j).word)
   unfolding terms
   by_number-behind zero i n none = (omega arith, λ j x y. absurd (omega arith))
+  by_number-behind (suc k) i zero b = elim b [ ]
   by_number-behind (suc k) i (suc n) (past p b) =
       let (h, a) = by_number-behind k (suc i) n b in
       (omega arith, λ j x y. go j x y (ℕ_discrete j i) (a j))

@@ -1,5 +1,6 @@
 // What the program overlap_list prints for a package, made in a slice: a library, so that every program that runs it or tries it calls the
 // same functions. Reading and writing are the programs' own.
+#![tactic(auto)]
 
 ghost use Rattle.std.specs.Prelude.{◌≡◌, ◌+◌, ◌≤◌, length};
 ghost use Rattle.std.proofs.lemmas.List.Edits.{sets};

@@ -85,12 +85,17 @@ module _ (P : Package) (r : Readable P) where
       ∙ run-answers b (suc used) (stepped-written P r f t i n c) w last (omega arith) (small-next e s)
       ∙ ap (answer N) (omega arith)
 
+  -- No step leaves a formula as it is.
+  none_moved : {f g : Poly} → StepsTo P f 0 g → f ≡ g
+  none_moved unmoved = refl
+
   run-over : {f g : Poly} {m : ℕ} (b used : ℕ) → InForm f → StepsTo P f (suc m) g → 512 < length g → suc m ≤ b → AtMost512 P f m → run_from b used f ≡ over (used + suc m)
-  run-over zero used c w l h s = absurd (omega arith)
-  run-over (suc b) used c (step_then e unmoved) l h s = run_large b used c e l ∙ ap over (omega arith)
-  run-over {f} (suc b) used c (step_then {t = t} {i} {n} e (step_then d w)) l h s =
+  run-over {m = m} zero used c w l h s = absurd (omega arith)
+  run-over {f = f} {g = g} {m = zero} (suc b) used c (step_then {t = t} {i} {n} e w) l h s =
+      run_large b used c e (subst (λ (x : Poly). 512 < length x) (sym (none_moved w)) l) ∙ ap over (omega arith)
+  run-over {f = f} {g = g} {m = suc m} (suc b) used c (step_then {t = t} {i} {n} e w) l h s =
       run_small b used c e (small_one e s)
-      ∙ run-over b (suc used) (stepped-written P r f t i n c) (step_then d w) l (omega arith) (small-next e s)
+      ∙ run-over {f = after_step f t i n} b (suc used) (stepped-written P r f t i n c) w l (omega arith) (small-next e s)
       ∙ ap over (omega arith)
 
   run-spent : {f g : Poly} (b used : ℕ) → InForm f → StepsTo P f b g → (NoStep (basis P) g → ⊥) → AtMost512 P f b → run_from b used f ≡ spent
@@ -101,7 +106,7 @@ module _ (P : Package) (r : Readable P) where
       go reduced e = absurd (left ((target-none_iff (basis P) f).0 e))
       go (reducible t i n) e = refl
   run-spent {f} (suc b) used c (step_then {t = t} {i} {n} e w) left s =
-      run_small b used c e (small_one e s) ∙ run-spent b (suc used) (stepped-written P r f t i n c) w left (small-next e s)
+      run_small b used c e (small_one e s) ∙ run-spent {f = after_step f t i n} b (suc used) (stepped-written P r f t i n c) w left (small-next e s)
 
   -- How a run ended, in 01's words, where `used` steps were made before it.
   Met : ℕ → ℕ → Poly → Ended → Type 0

@@ -1,10 +1,11 @@
 // What a package's sums are made of: sum lines as they stand in the bytes (refusal 15).
+#![tactic(auto)]
 
 pub mod item_lines;
 pub mod sum_line;
 
 // A sum line that stands in the bytes, if one is present: its words are the letters from left and from right on, and the line behind it starts at next.
-#[derive(Drop)]
+#[derive(Clone, Copy)]
 pub struct SumAt {
     pub present: bool,
     pub kind: u32,

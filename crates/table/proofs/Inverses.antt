@@ -2,7 +2,7 @@
 use mathlib.Core.Path.{◌≡◌, ◌∙◌, ap}
 use mathlib.Core.Logic.{◌≢◌, inl, inr, ◌⊎◌}
 use mathlib.Core.List.{List, []}
-use Prim.Native.Nat.{ℕ, suc, ◌+◌, ◌<◌}
+use Prim.Native.Nat.{ℕ, suc, ◌<◌}
 use Rattle.field.proofs.Derived.{inv-ne-zero, divided_times}
 use Rattle.field.proofs.Fields.{below_of, element_of}
 use Rattle.field.proofs.Inverse.{inv-lt}
@@ -11,7 +11,7 @@ use Rattle.algebra.specs.Groebner.{lead_coef, Led}
 use Rattle.algebra.proofs.Leading.{red-lead}
 use Rattle.algebra.proofs.WrittenForm.{written-led}
 use Rattle.working.proofs.Families.{family-written}
-use Rattle.table.specs.Table.{prime_in, gens_in, basis_count_in, field_in, order_in, inverse_in}
+use Rattle.table.specs.Table.{prime_in, basis_count_in, field_in, order_in, inverse_in}
 use Rattle.table.specs.Polynomials.{basis_in}
 use Rattle.table.specs.Tabled.{Tabled}
 use Rattle.table.proofs.LeadingTerms.{basis-some}

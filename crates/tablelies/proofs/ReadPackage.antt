@@ -12,7 +12,7 @@ use Rattle.package.specs.declared.Limits.{Limits}
 use Rattle.package.specs.declared.Reading.TheVariants.{Whole}
 use Rattle.package.specs.Held.{held_term, held_terms, seen_all, WordsInside, StartsMarked}
 use Rattle.package.specs.Package.{Package, read_package, package_limits}
-use Rattle.package.specs.Readable.{Readable, TermsInOrder, no_terms, term_then}
+use Rattle.package.specs.Readable.{Readable, TermsInOrder, no_terms, term_then, under}
 use Rattle.package.specs.Terms.{TermLine, LineAbove}
 use Rattle.package.proofs.LineBounds.{HeadBounds}
 use Rattle.package.proofs.ReadingFacts.{kept_at, whole_package, whole-readable, whole-bounds}
@@ -27,8 +27,8 @@ use Rattle.tablelies.proofs.Letters.{letters_wider}
 terms-letters : (h : Head) (m : Limits) {a : LineAbove} {n : ℕ} (ts : List TermLine) → TermsInOrder h m a n ts
     → All (λ t. All (Letter h.letters) t.word) ts
 terms-letters h m [] no_terms = done
-terms-letters h m (t ∷ ts) (term_then o os) =
-    (term-bounds h m t.kind t.item t.coef t.word o.fits).letters also terms-letters h m ts os
+terms-letters h m {a = a} (t ∷ ts) (term_then o os) =
+    (term-bounds h m t.kind t.item t.coef t.word o.fits).letters also terms-letters h m {a = under a t} ts os
 
 module _ (s ks is cs os ls fs : List ℕ) (h : Head) (m at n : ℕ) (e : seen_all s ks is cs os ls (Whole h m at n) ≡ read_package s)
     (marked : StartsMarked h ks is m fs) (few : m ≤ 1024) (inside : WordsInside s os ls m)

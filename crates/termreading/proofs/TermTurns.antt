@@ -17,7 +17,6 @@ use Rattle.package.specs.declared.Limits.{Limits}
 use Rattle.text.proofs.Cutting.{cut-more, cut-end}
 use Rattle.lists.specs.Same.{same}
 use Rattle.text.specs.Pieces.{lines, stop, part}
-use Rattle.text.specs.Word.{word}
 
 module _ (h : Head) (lim : Limits) (a : LineAbove) (ts : List TermLine) (n : ℕ) (s : List ℕ) (at e : ℕ) (q : e ≡ at + stop 10 (drop at s)) where
   pub turn_missing : length s ≤ e → refused 2 n ≡ block2 h lim a ts n (lines (drop at s))

@@ -1,5 +1,5 @@
 -- Tests of bytes.
-use Rattle.std.specs.Prelude.{Bool, true, false, List, [], ◌∷◌, ℕ, eqb, ltb}
+use Rattle.std.specs.Prelude.{Bool, true, false, List, [], ◌∷◌, ℕ, ltb}
 
 -- x is one of lo, .., hi.
 unfoldable pub within : ℕ → ℕ → ℕ → Bool

@@ -1,4 +1,5 @@
 // Where a word stands in another.
+#![tactic(auto)]
 
 pub mod eight_letters;
 pub mod place;

@@ -9,7 +9,7 @@ use crate::two_letters::two_same;
 // Whether a word stands at a place of another, and how many letters a comparison one by one from the end takes. (C reads it in the
 // archive of crate trials.)
 #[repr(C)]
-#[derive(Drop)]
+#[derive(Clone, Copy)]
 pub struct Stood {
     pub stands: bool,
     pub compared: usize,

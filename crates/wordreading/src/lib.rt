@@ -1,3 +1,4 @@
 // Words read as fields of a line, from a place on.
+#![tactic(auto)]
 
 pub mod word;

@@ -1,16 +1,16 @@
 -- Document 01's order: it is the weighted order in which each letter weighs 1, so it is admissible; and on words of bytes it is what 01 says.
 use mathlib.Core.Path.{◌≡◌, refl, sym, ◌∙◌, subst}
-use mathlib.Core.Logic.{◌↔◌, ◌⊎◌, inl, inr}
+use mathlib.Core.Logic.{◌↔◌, inl, inr}
 use mathlib.Core.List.{[], ◌∷◌}
 use Prim.Native.Nat.{ℕ, zero, suc, ◌-◌, ◌≤◌, ◌<◌}
 use native.Mathlib.Decide.{dec_lt}
 use native.Mathlib.Omega.{arith}
 use lib.ListN.{length, get_or}
 use borrow.Author.Tests.{lt-ltb, le-ltb}
-use Rattle.words.specs.declared.Comparison.TheVariants.{Below, Above}
-use Rattle.lists.specs.All.{All, done, ◌also◌}
+use Rattle.words.specs.declared.Comparison.TheVariants.{Below}
+use Rattle.lists.specs.All.{All, ◌also◌}
 use Rattle.words.specs.Word.{Word}
-use Rattle.words.specs.Order.{Lt, Admissible, FirstDiffers, IsBelow, letter_rank, by_letters, word_order}
+use Rattle.words.specs.Order.{Admissible, FirstDiffers, IsBelow, letter_rank, word_order}
 use Rattle.words.specs.Weighted.{Proper, weight, weighted_order, unit_weighing}
 use Rattle.words.proofs.Lexicographic.{Lex}
 use Rattle.words.proofs.WeightedOrder.{Less, less_of_lt, lt_of_less, weighted_admissible}

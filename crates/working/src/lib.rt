@@ -3,12 +3,13 @@
 // moving one entry of `o`, and with it those between; coefficients and words stay where they are. Entries have 16 bits, so that few bytes are moved.
 // Here `o` starts and its entries move, and here are the definitions of polynomials that lie in slices. The arrays are in crate packedterms, and a
 // multiple is added in crate itemadding.
+#![tactic(auto)]
 
 pub mod entries;
 pub mod formula;
 
 // Where a word belongs among others, and whether it is present there.
-#[derive(Drop)]
+#[derive(Clone, Copy)]
 pub struct Position {
     pub index: usize,
     pub present: bool,

@@ -1,0 +1,9 @@
+-- `budget`: ten digits, bounded.
+use mathlib.Core.Path.{◌∙◌, ap}
+use Prim.Native.Nat.{min}
+use Rattle.cases.specs.HeadLine.{budget_said}
+use Rattle.cases.proofs.head.budget.Goals as goal
+
+pub returns : goal.returns
+unfolding budget_said
+returns c = c.lesser.ensures ∙ ap (λ x. min x 4294967295) c.number_said.ensures

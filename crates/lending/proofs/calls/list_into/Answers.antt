@@ -1,0 +1,19 @@
+-- `list_into`: the part lent has room bytes, and the bytes behind it are kept.
+use mathlib.Core.Path.{◌∙◌, ap, sym}
+use mathlib.Core.List.{List, ◌++◌}
+use Prim.Native.Nat.{ℕ}
+use lib.ListN.{drop}
+use lib.Seq.{length-take-le}
+use Rattle.services.specs.Services.{listed_as}
+use borrow.Author.Rules.{rules}
+use Rattle.lending.proofs.calls.list_into.Goals as goal
+
+pub slice_bounds-vg_list_overlaps-end-2 : goal.slice_bounds-vg_list_overlaps-end-2
+slice_bounds-vg_list_overlaps-end-2 c = sym (length-take-le _ _ (search rules))
+
+pub returns : goal.returns
+returns c =
+    record {
+      value = c.vg_list_overlaps.ensures.value ∙ ap (listed_as _) (length-take-le c.args.room c.args.out.now c.requires);
+      out_after = ap (λ (x : List ℕ). x ++ drop c.args.room c.args.out.now) c.vg_list_overlaps.ensures.out_after;
+    }

@@ -1,0 +1,12 @@
+use mathlib.Core.Path.{◌≡◌}
+use Prim.Native.Nat.{ℕ, ◌≤◌}
+use lib.ListN.{length, get_or}
+use Rattle.working.specs.Rotation.{shifted_right}
+use Rattle.working.proofs.entries.rotate_right.Given as goal
+
+abbrev pub invariant-loop-i : goal.invariant-loop-i
+invariant-loop-i l =
+    (l.k ≤ l.i) × (l.i ≤ l.n) × (length l.a ≡ length l.initial.a) × (l.x ≡ get_or l.initial.a l.n 0) × ((j : ℕ) → get_or l.a j 0 ≡ get_or l.initial.a (shifted_right l.i l.n j) 0)
+
+abbrev pub decreases-loop-i : goal.decreases-loop-i
+decreases-loop-i l = l.i
