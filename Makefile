@@ -1,20 +1,19 @@
-# make               proves every crate; quick when nothing changed
-# make test          every test, from nothing: the layout of the sources, the gate `rt ci` (proofs, must-fail edits, programs), the C side
-#                    (the targets below), and last the gate's verdict again
+# make               proves every crate and builds the program; quick when nothing changed
+# make test          every test: the gate `rt ci` (the layout of the sources, proofs, must-fail edits, tests, programs), the C side (the
+#                    targets below), and last the gate's verdict again
 # make command       builds the command, target/vaultgarlic
 # make install       installs the command, the library, the header and vaultgarlic.pc under PREFIX (/usr/local), in DESTDIR if that is set
 # make uninstall     removes what install installed
 # make bench         the time of each service, beside two Rust implementations; BENCH='--ms 1000' for more repeats (docs/BENCH.md)
 # make soak          the comparison with the oracle on 1,000,000 inputs, with a word at a place and a word packed for each that is random
 # make stack         the bytes of stack that a call of each service takes, measured on the examples
-# make gate-times    the last gate's seconds and edits, crate by crate, for docs/changes/; of another log with LOG=FILE; beside those of an
-#                    earlier log with BEFORE=FILE
-# make clean         removes what was built
+# make gate-times    what the last gate's log tells: its seconds, and of each crate whether it was proved anew and its edits; of another log
+#                    with LOG=FILE; beside those of an earlier log with BEFORE=FILE
+# make clean         removes what was built, and what rt keeps of each crate
 #
 # Parts of `make test`, in its order:
-# make layout        the layout of the sources
-# make documents     what the documents name (theorems, files, edits, crates, targets), held to the sources; the table of the gate's times
-# make gate          rt ci, which begins by removing target/
+# make documents     what the documents name (theorems, files, edits, crates, targets), held to the sources; the table of the gate's log
+# make gate          rt ci, which refuses sources that are not laid out; it fails also where an edit is bad, which rt ci only notes
 # make library       the static library, proved
 # make trials        the functions below the services that tests call, proved, as an archive of their own; nothing installs it
 # make client-test   the header as C++, and the examples in C, compiled and run
@@ -26,7 +25,7 @@
 
 SHELL = /bin/bash
 
-.PHONY: all test gate command install uninstall bench soak stack gate-times clean layout documents library trials client-test command-test install-test guard differential
+.PHONY: all test gate command install uninstall bench soak stack gate-times clean documents library trials client-test command-test install-test guard differential
 .NOTPARALLEL:
 
 PREFIX ?= /usr/local
@@ -41,47 +40,47 @@ LIBRARY = target/staticlib/libvaultgarlic.a
 TRIALS = target/staticlib/libtrials.a
 HEADER = include/vaultgarlic.h
 PROGRAM = target/bin/overlap_list
-SOURCES := crates.txt $(shell find crates -name '*.rt' -o -name '*.antt')
+# Not those that rt copies into the folders out/.
+SOURCES := crates.txt $(shell find crates -name out -prune -o \( -name '*.rt' -o -name '*.antt' \) -print)
 CARGO_OPTIONS = --quiet --offline --release --manifest-path tests/oracle/Cargo.toml
 ORACLE = VG_LIB_DIR=../../target/staticlib cargo run $(CARGO_OPTIONS) --bin differential --
 
 all:
-	@rt check
+	@rt all check
+	@$(MAKE) --no-print-directory $(PROGRAM)
 
-# The gate goes before the C side: the library is then made of what it proved.
-test: layout documents gate library trials client-test command-test install-test guard differential
+test: documents gate library trials client-test command-test install-test guard differential
 	@tail -n 1 target/gate.log
 
+# The log of a gate that passed begins with its seconds.
 gate:
 	@echo '== rt ci'
-	@set -o pipefail; log=$$(mktemp); rt ci 2>&1 | tee "$$log" || { rm -f "$$log"; exit 1; }; mkdir -p target; mv "$$log" target/gate.log
-
-layout:
-	@echo '== layout of the sources'
-	@rt fmt --check
+	@mkdir -p target
+	@set -o pipefail; SECONDS=0; rt ci 2>&1 | tee target/gate.log && sed -i "1i rt ci took $$SECONDS s" target/gate.log
+	@! grep '^rt: ok.*, [1-9][0-9]* bad' target/gate.log || { echo 'must-fail edits are bad: they try no contract' >&2; exit 1; }
 
 documents:
 	@echo '== documents'
 	@python3 -B -m unittest discover -q -s tests/documents
 
-# `library` and `trials` always ask rt, which knows by the files' contents whether anything is to be done.
+# The archive of crate NAME_c, under the name NAME. It is made of what rt has proved in the crates' folders, by the files' contents: where
+# that is out of date, or the gate alone has proved a crate, rt proves it first.
+archive = mkdir -p target/staticlib; (cd crates/$(1)_c && rt lib) >target/$(1).log 2>&1 || { cat target/$(1).log; exit 1; }; \
+    cp crates/$(1)_c/out/lib$(1)_c.a target/staticlib/lib$(1).a
+
 library $(LIBRARY): $(SOURCES)
 	@echo '== static library'
-	@mkdir -p target
-	@rt staticlib vaultgarlic >target/staticlib.log 2>&1 || { cat target/staticlib.log; exit 1; }
-	@touch $(LIBRARY)
+	@$(call archive,vaultgarlic)
 
 trials $(TRIALS): $(SOURCES)
 	@echo '== trial archive'
-	@mkdir -p target
-	@rt staticlib trials >target/trials.log 2>&1 || { cat target/trials.log; exit 1; }
-	@touch $(TRIALS)
+	@$(call archive,trials)
 
-# The gate leaves the program behind; without a gate, rt makes it.
+# rt builds a program where it runs it.
 $(PROGRAM): $(SOURCES)
-	@mkdir -p target
-	@rt check overlap_list >target/program.log 2>&1 || { cat target/program.log; exit 1; }
-	@touch $@
+	@mkdir -p $(@D)
+	@(cd crates/overlap_list && rt run <stdin) >/dev/null 2>target/program.log || { cat target/program.log; exit 1; }
+	@cp crates/overlap_list/out/overlap_list $@
 
 command: target/vaultgarlic
 
@@ -155,4 +154,4 @@ bench: $(LIBRARY)
 	@cargo run --release --quiet --offline --target-dir target/benchmark --manifest-path bench/Cargo.toml -- $(BENCH)
 
 clean:
-	@rm -rf target tests/oracle/target
+	@rm -rf target tests/oracle/target crates/*/out

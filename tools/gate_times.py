@@ -1,94 +1,74 @@
-"""The times of the gate, crate by crate, as a table in Markdown.
+"""What the log of a gate tells of its time: the seconds of the whole, what was done in them, and a table of the crates in Markdown.
 
     gate_times.py LOG            one gate
     gate_times.py BEFORE AFTER   two gates side by side
 
-A log is what `rt ci` prints; `make gate` keeps it as target/gate.log. rt tells the seconds that each proof and each edit took; where two
-run at a time, the gate lasts about half of their sum. The dearest crate stands first.
+A log is what `rt ci` prints; `make gate` keeps it as target/gate.log, with the seconds of the whole in its first line. rt tells no times of single
+crates, and proves and tries only what it has not passed before on the machine. So the table has of each crate whether it was proved in that run or
+kept from an earlier one, and how many edits were refused. An edit costs a check of its crate: the crate with the most edits stands first. The seconds
+of two gates compare where each did everything in its run.
 """
 import re
 import sys
-from collections import defaultdict
-from dataclasses import dataclass
+from collections import Counter
 
-PROOF = re.compile(r"rt: (\w+) proved \((\d+) s\)$")
-EDIT = re.compile(r"rt: must-fail (\w+)/[\w-]+: .*\b(\d+) s\)$")
+WHOLE = re.compile(r"rt ci took (\d+) s$")
+PROOF = re.compile(r"rt: (\w+) (proved$|is kept: )")
+EDIT = re.compile(r"rt: must-fail (\w+)/[\w.-]+: refused")
+DONE = re.compile(r"rt: ok; .*?((?:done in this run: |every proof ).*)$")
 VERDICT = re.compile(r"(\d+) passed, 0 failed$")
 
 
-@dataclass
-class Times:
-    proof: int = 0
-    edits: int = 0
-    edits_seconds: int = 0
+class Gate:
+    """What a log tells: the seconds of the whole, what was done in them, and by a crate's name how it was proved and how many edits were refused."""
 
-    def __add__(self, other):
-        return Times(self.proof + other.proof, self.edits + other.edits, self.edits_seconds + other.edits_seconds)
+    def __init__(self, path):
+        self.seconds, self.done, self.proved, self.edits, passed = "?", "", {}, Counter(), 0
+        with open(path, encoding="utf-8", errors="replace") as log:
+            for line in map(str.rstrip, log):
+                if found := WHOLE.match(line):
+                    self.seconds = found[1]
+                elif found := PROOF.match(line):
+                    self.proved[found[1]] = "now" if found[2] == "proved" else "kept"
+                elif found := EDIT.match(line):
+                    self.edits[found[1]] += 1
+                elif found := DONE.match(line):
+                    self.done = found[1]
+                elif found := VERDICT.match(line):
+                    passed = int(found[1])
+        crates, edits = len(self.proved), self.edits.total()
+        if passed != crates + edits:
+            print(f"gate_times: {path}: {crates} crates and {edits} edits, and {passed} passed: not the whole log of a gate that passed", file=sys.stderr)
 
-    def seconds(self):
-        return self.proof + self.edits_seconds
-
-
-def read_log(path):
-    """The times of each crate, by its name. A log that is not whole is told of."""
-    crates, seen, passed = defaultdict(Times), 0, 0
-    with open(path, encoding="utf-8", errors="replace") as log:
-        for line in map(str.rstrip, log):
-            if found := PROOF.search(line):
-                crates[found[1]] += Times(proof=int(found[2]))
-                seen += 1
-            elif found := EDIT.search(line):
-                crates[found[1]] += Times(edits=1, edits_seconds=int(found[2]))
-                seen += 1
-            elif found := VERDICT.search(line):
-                passed = int(found[1])
-    if passed != seen:
-        print(f"gate_times: {path}: {seen} times of crates and edits, and {passed} passed: not the whole log of a gate", file=sys.stderr)
-    return crates
+    def cells(self, name):
+        """How a crate was proved and how many edits it has, or all crates; nothing where the gate has no such crate."""
+        if not name:
+            return f"{list(self.proved.values()).count('now')} of {len(self.proved)} now", self.edits.total()
+        return (self.proved[name], self.edits[name]) if name in self.proved else ("", "")
 
 
-def print_table(head, names, row):
-    """A row for each crate, the dearest first, and one for all of them."""
-    print("| " + " | ".join(head) + " |")
-    print("|---" + "|---:" * (len(head) - 1) + "|")
+def print_gates(gates, titles):
+    """The seconds of each, a row for each crate, the one with the most edits first, and a row for all of them."""
+    for gate, title in zip(gates, titles):
+        print(f"{title}{gate.seconds} s; {gate.done}")
+    print("rt ci tells no times of single crates.\n")
+    head = ["Proved", "Edits"] if len(gates) == 1 else ["Proved: before", "after", "Edits: before", "after"]
+    print("| " + " | ".join(["Crate", *head]) + " |")
+    print("|---" * (1 + len(gates)) + "|---:" * len(gates) + "|")
+    names = sorted(set().union(*(gate.proved for gate in gates)), key=lambda name: (-max(gate.edits[name] for gate in gates), name))
     for name in names + [None]:
-        print("| " + " | ".join([f"`{name}`" if name else "all"] + [str(cell) for cell in row(name)]) + " |")
-
-
-def of(gate, name):
-    """The times of a crate, or of all; None where the gate has no such crate."""
-    return gate.get(name) if name else sum(gate.values(), Times())
-
-
-def print_one(gate):
-    def row(name):
-        times = of(gate, name)
-        return times.proof, times.edits, times.edits_seconds, times.seconds()
-
-    names = sorted(gate, key=lambda name: (-gate[name].seconds(), name))
-    print_table(["Crate", "Proof, s", "Edits", "Edits, s", "Together, s"], names, row)
-
-
-def print_two(before, after):
-    def row(name):
-        both = of(before, name), of(after, name)
-        return [getattr(times, part) if times else "" for part in ("proof", "edits", "edits_seconds") for times in both]
-
-    def dearest(name):
-        return max(gate[name].seconds() for gate in (before, after) if name in gate)
-
-    names = sorted(set(before) | set(after), key=lambda name: (-dearest(name), name))
-    print_table(["Crate", "Proof, s: before", "after", "Edits: before", "after", "Edits, s: before", "after"], names, row)
+        proved, edits = zip(*(gate.cells(name) for gate in gates))
+        print("| " + " | ".join([f"`{name}`" if name else "all", *proved, *map(str, edits)]) + " |")
 
 
 def main(paths):
     if len(paths) not in (1, 2):
         sys.exit("usage: gate_times.py LOG, or gate_times.py BEFORE AFTER")
     try:
-        gates = [read_log(path) for path in paths]
+        gates = [Gate(path) for path in paths]
     except OSError as error:
         sys.exit(f"gate_times: {error.filename}: {error.strerror}")
-    (print_one if len(gates) == 1 else print_two)(*gates)
+    print_gates(gates, ["The gate: "] if len(gates) == 1 else ["Before: ", "After: "])
 
 
 main(sys.argv[1:])
