@@ -14,7 +14,11 @@ def read(path):
         return file.read()
 
 
-CRATES = re.findall(r"^(\w+):", read("crates.txt"), re.M)
+# A line of crates.txt is NAME: DEP DEP .., or with words for its kind between name and colon: NAME staticlib: DEP DEP ..
+DEPENDENCIES = {name: deps.split() for name, deps in re.findall(r"^(\w+)(?: [^:\n]*)?:(.*)", read("crates.txt"), re.M)}
+CRATES = list(DEPENDENCIES)
+# What is written of a function's proof, in a folder below proofs/. The names that it declares are those of goals.
+FUNCTION_PROOF = re.compile(r"crates/\w+/proofs/.*/(Answers|Invariants|Proof)\.antt")
 
 
 def documents():
@@ -26,7 +30,14 @@ def documents():
 @functools.cache
 def files():
     """Every file of code, definitions and proofs."""
-    return [path for ending in ("antt", "rt") for path in glob.glob("crates/**/*." + ending, root_dir=ROOT, recursive=True)]
+    parts = ("src", "specs", "proofs")
+    return [path for part in parts for ending in ("antt", "rt") for path in glob.glob(f"crates/*/{part}/**/*.{ending}", root_dir=ROOT, recursive=True)]
+
+
+@functools.cache
+def laws_and_definitions():
+    """Every file of code, definitions and proofs but the proofs of functions."""
+    return [path for path in files() if not FUNCTION_PROOF.fullmatch(path)]
 
 
 @functools.cache
@@ -34,7 +45,20 @@ def declared(path):
     """The names that a file declares: the public ones of definitions and proofs; functions, types and constants of the code."""
     if path.endswith(".rt"):
         return set(re.findall(r"\b(?:fn|struct|enum|const) (\w+)", read(path)))
-    return set(re.findall(r"^ *(?:\w+ )*pub (?:record |data )?([^\s:]+)", read(path), re.M))
+    return set(re.findall(r"^ *(?:\w+ )*pub (?!mod )(?:record |data )?([^\s:]+)", read(path), re.M))
+
+
+@functools.cache
+def functions(crate):
+    """The names of a crate's functions."""
+    paths = [path for path in files() if path.startswith(f"crates/{crate}/src/")]
+    return {name for path in paths for name in re.findall(r"\bfn (\w+)", read(path))}
+
+
+@functools.cache
+def defined():
+    """The names that files of definitions declare."""
+    return set().union(*(declared(path) for path in files() if path.split("/")[2] == "specs"))
 
 
 @functools.cache

@@ -3,7 +3,7 @@ import os
 import re
 import unittest
 
-from sources import CRATES, ROOT, read, ticked
+from sources import CRATES, DEPENDENCIES, ROOT, read, ticked
 
 
 def listed_groups():
@@ -13,7 +13,7 @@ def listed_groups():
         if line.startswith("#"):
             name = line.strip("#= ")
         elif ":" in line:
-            groups.setdefault(name, set()).add(line.split(":")[0])
+            groups.setdefault(name, set()).add(line.split(":")[0].split()[0])
     return groups
 
 
@@ -41,3 +41,6 @@ class Crates(unittest.TestCase):
 
     def test_every_folder_is_listed(self):
         self.assertEqual(set(os.listdir(os.path.join(ROOT, "crates"))), set(CRATES))
+
+    def test_no_library_of_the_kit_but_std(self):
+        self.assertEqual({dep for deps in DEPENDENCIES.values() for dep in deps} - set(CRATES), set())

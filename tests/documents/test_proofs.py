@@ -3,13 +3,15 @@ import os
 import re
 import unittest
 
-from sources import CRATES, ROOT, declared, edits, files, read, tables, ticked
+from sources import CRATES, ROOT, declared, defined, edits, files, functions, laws_and_definitions, read, tables, ticked
 
 DOCUMENT = read("docs/PROOFS.md")
 FILE = re.compile(r"[\w./-]+\.(?:antt|rt|h|c|md)")
 EDIT = re.compile(r"`(\w+)/must-fail/([\w-]*)`")
 # A name that is no word of a language: with a hyphen, an underscore or a capital letter.
 COINED = re.compile(r"(?=.*[-_A-Z])[A-Za-z][\w-]*")
+# Columns in which a name is that of a definition, also where a function has the same.
+OF_DEFINITIONS = ("Equals", "Answer", "Output")
 
 
 def column(head, word):
@@ -53,6 +55,32 @@ class Proofs(unittest.TestCase):
                     count += len(names)
         self.assertGreaterEqual(count, 80)
 
+    def test_functions(self):
+        count = 0
+        for head, rows in tables(DOCUMENT):
+            named, _ = column(head, "Function")
+            crates, _ = column(head, "Crate")
+            for row in rows if named is not None else []:
+                for name in ticked(row[named]):
+                    with self.subTest(name):
+                        among = CRATES if crates is None else ticked(row[crates])
+                        self.assertTrue(any(name in functions(crate) for crate in among), "no function of %s" % among)
+                    count += 1
+        self.assertGreaterEqual(count, 40)
+
+    def test_definitions(self):
+        count = 0
+        for head, rows in tables(DOCUMENT):
+            named, _ = column(head, "Function")
+            for place, _ in filter(lambda found: found[0] is not None, (column(head, word) for word in OF_DEFINITIONS)):
+                for row in rows:
+                    others = ticked(row[named]) if named is not None else []
+                    for name in filter(COINED.fullmatch, ticked(row[place])):
+                        with self.subTest(name):
+                            self.assertTrue(name in defined() or name in others, "no definition")
+                        count += 1
+        self.assertGreaterEqual(count, 20)
+
     def test_files(self):
         names = list(filter(FILE.fullmatch, ticked(DOCUMENT)))
         for name in names:
@@ -87,8 +115,8 @@ class Proofs(unittest.TestCase):
         known = set(CRATES)
         for crate in CRATES:
             known |= edits(crate)
-        for path in files():
-            known |= declared(path) | {os.path.basename(path)[:-5]}
+        for path in laws_and_definitions():
+            known |= declared(path) | {re.sub(r"\.\w+$", "", os.path.basename(path))}
         for name in set(filter(COINED.fullmatch, ticked(DOCUMENT))):
             with self.subTest(name):
                 self.assertTrue(name in known, "declared nowhere")
