@@ -18,7 +18,6 @@ import sys
 
 HERE = os.path.dirname(os.path.realpath(__file__))
 TABLE = os.path.join(HERE, "port_names.tsv")
-KIT = "/opt/rattle/rattle/std/proofs"
 WORD = r'[^\s(){}.;,@"«»]+'
 DECLARED = re.compile(r'(?m)^( *)((?:pub|abbrev|unfoldable|opaque) )*(' + WORD + r')(?: \{[^{}\n]*\})* :(?=\s)(?! *(?:tie\.|\{M : Type 1\} → statement|statement))')
 TIED = re.compile(r'(?m)^(?:abbrev )?(?:pub )?(' + WORD + r') : (?:tie\.|\{M : Type 1\} → statement|statement)')
@@ -77,7 +76,8 @@ def make_table(root):
             names.add(n)
     # words that the library joins by a dash
     count = collections.Counter()
-    for folder, _, fs in os.walk(KIT):
+    kit = os.path.dirname(subprocess.run(["rt", "doc"], capture_output=True, text=True).stdout.strip())
+    for folder, _, fs in os.walk(os.path.join(kit, "rattle", "std", "proofs")):
         for f in fs:
             if f.endswith(".antt"):
                 with open(os.path.join(folder, f), encoding="utf-8") as it:
