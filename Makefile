@@ -1,4 +1,4 @@
-# make               proves every crate and builds the program; quick when nothing changed
+# make               proves every crate, builds the programs and runs them; quick when nothing changed
 # make test          every test: the gate `rt ci` (the layout of the sources, proofs, must-fail edits, tests, programs), the C side (the
 #                    targets below), and last the gate's verdict again
 # make command       builds the command, target/vaultgarlic
@@ -45,9 +45,14 @@ SOURCES := crates.txt $(shell find crates -name out -prune -o \( -name '*.rt' -o
 CARGO_OPTIONS = --quiet --offline --release --manifest-path tests/oracle/Cargo.toml
 ORACLE = VG_LIB_DIR=../../target/staticlib cargo run $(CARGO_OPTIONS) --bin differential --
 
+# The programs run too, and print what their files stdout have. rt builds a program where it runs it; there `vectors` finds no cases, so it runs
+# once more where they are.
 all:
 	@rt all check
 	@$(MAKE) --no-print-directory $(PROGRAM)
+	@$(PROGRAM) <crates/overlap_list/stdin | cmp - crates/overlap_list/stdout
+	@(cd crates/vectors && rt run) >target/vectors.log 2>&1 || true
+	@(cd crates/vectors/data && ../out/vectors) | cmp - crates/vectors/stdout
 
 test: documents gate library trials client-test command-test install-test guard differential
 	@tail -n 1 target/gate.log
@@ -57,7 +62,7 @@ gate:
 	@echo '== rt ci'
 	@mkdir -p target
 	@set -o pipefail; SECONDS=0; rt ci 2>&1 | tee target/gate.log && sed -i "1i rt ci took $$SECONDS s" target/gate.log
-	@! grep '^rt: ok.*, [1-9][0-9]* bad' target/gate.log || { echo 'must-fail edits are bad: they try no contract' >&2; exit 1; }
+	@! grep -E '^rt: ok.*, [1-9][0-9]* (bad|of them only by a limit)' target/gate.log || { echo 'must-fail edits are bad, or told nothing' >&2; exit 1; }
 
 documents:
 	@echo '== documents'
