@@ -51,7 +51,7 @@ all:
 	@rt all check
 	@$(MAKE) --no-print-directory $(PROGRAM)
 	@$(PROGRAM) <crates/overlap_list/stdin | cmp - crates/overlap_list/stdout
-	@(cd crates/vectors && rt run) >target/vectors.log 2>&1 || true
+	@rm -f crates/vectors/out/vectors; (cd crates/vectors && rt run) >target/vectors.log 2>&1 || true
 	@(cd crates/vectors/data && ../out/vectors) | cmp - crates/vectors/stdout
 
 test: documents gate library trials client-test command-test install-test guard differential
