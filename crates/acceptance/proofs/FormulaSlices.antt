@@ -12,7 +12,7 @@ use Rattle.words.specs.Order.{word_order}
 use Rattle.words.proofs.LaidWords.{laid-word-length}
 use Rattle.algebra.specs.Poly.{Poly}
 use Rattle.algebra.specs.Written.{Written}
-use Rattle.package.specs.declared.FormulaRead.TheVariants.{Formula}
+use Rattle.std.specs.Prelude.{Ok}
 use Rattle.package.specs.declared.Limits.{Limits}
 use Rattle.package.specs.Formula.{formula, read_formula}
 use Rattle.package.specs.Held.{WordsInside, rows_held, seen_formula}
@@ -39,7 +39,7 @@ module _ (s cs os ls : List ℕ) where
       same j a b = let q : j < n = omega arith in rw (get_or-take n cs j 0 q, get_or-take n os j 0 q, get_or-take n ls j 0 q)
 
 -- What a caller of the reader knows of a formula that was read.
-module _ (p letters : ℕ) (m : Limits) (s cs os ls : List ℕ) (n : ℕ) (seen : seen_formula s cs os ls (Formula n) ≡ read_formula p letters m s) (lc : n ≤ length cs) where
+module _ (p letters : ℕ) (m : Limits) (s cs os ls : List ℕ) (n : ℕ) (seen : seen_formula s cs os ls (Ok n) ≡ read_formula p letters m s) (lc : n ≤ length cs) where
   abbrev held : Poly
   held = poly_at (take n cs) (take n os) (take n ls) s
 

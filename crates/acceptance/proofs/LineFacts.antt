@@ -8,8 +8,8 @@ use native.Mathlib.Omega.{arith}
 use lib.Dec.{eqb, ltb}
 use lib.ListN.{length}
 use borrow.Author.Tests.{eqb-true, ltb-true, ltb-false}
-use Rattle.words.specs.declared.Comparison.{Comparison}
-use Rattle.words.specs.declared.Comparison.TheVariants.{Below, Equal, Above}
+use Rattle.std.specs.declared.cmp.Ordering.{Ordering}
+use Rattle.std.specs.declared.cmp.Ordering.TheVariants.{Less, Equal, Greater}
 use Rattle.lists.specs.All.{All, done, ◌also◌}
 use Rattle.words.specs.Word.{Word, Letter}
 use Rattle.words.specs.Order.{Lt, word_order}
@@ -52,10 +52,10 @@ pub below_is : (u v : Word) → is_below u v ≡ true → Lt word_order u v
 unfolding is_below
 below_is u v e = go (word_order u v) refl e
   where
-    go : (c : Comparison) → word_order u v ≡ c → ◌≡◌ {A = Bool} (elim c [ Below ↦ true | Equal ↦ false | Above ↦ false ]) true → word_order u v ≡ Below
-    go Below d e = d
+    go : (c : Ordering) → word_order u v ≡ c → ◌≡◌ {A = Bool} (elim c [ Less ↦ true | Equal ↦ false | Greater ↦ false ]) true → word_order u v ≡ Less
+    go Less d e = d
     go Equal d e = absurd (false≢true e)
-    go Above d e = absurd (false≢true e)
+    go Greater d e = absurd (false≢true e)
 
 -- a term in bounds
 pub record TermBounds (h : Head) (m : Limits) (k i c : ℕ) (w : Word) : Type 0 where

@@ -11,6 +11,7 @@ use lib.Dec.{eqb, ltb}
 use lib.ListN.{length, get_or, take, drop, length-take, length-drop}
 use lib.Seq.{get_or-take, get_or-drop, ext_get_or}
 use borrow.Author.Tests.{eq-eqb, ne_eqb, ltb-false, lt-ltb, le-ltb}
+use Rattle.std.specs.Prelude.{Ok}
 use Rattle.lists.specs.All.{All, done, ◌also◌}
 use Rattle.lists.proofs.Every.{all_at}
 use Rattle.lists.proofs.Entries.{part_at}
@@ -20,7 +21,6 @@ use Rattle.text.proofs.Bytewise.{within_in}
 use Rattle.package.specs.Names.{term_g, term_b}
 use Rattle.package.specs.declared.Head.{Head}
 use Rattle.package.specs.declared.Limits.{Limits}
-use Rattle.package.specs.declared.Reading.TheVariants.{Whole}
 use Rattle.package.specs.Held.{held_term, held_terms, seen_all, WordsInside, StartsMarked}
 use Rattle.package.specs.Items.{slot, slots_of, first_of, item_terms}
 use Rattle.package.specs.Package.{Package, read_package, package_limits}
@@ -165,7 +165,7 @@ terms_of_at (t ∷ ts) zero d = refl
 terms_of_at (t ∷ ts) (suc j) d = terms_of_at ts j d
 
 -- What a caller of the reader knows of a package that was read.
-module _ (s ks is cs os ls fs : List ℕ) (h : Head) (m at n : ℕ) (e : seen_all s ks is cs os ls (Whole h m at n) ≡ read_package s)
+module _ (s ks is cs os ls fs : List ℕ) (h : Head) (m at n : ℕ) (e : seen_all s ks is cs os ls (Ok (record { head = h; terms = m; at = at; line = n })) ≡ read_package s)
     (marked : StartsMarked h ks is m fs) (inside : WordsInside s os ls m) (lc : m ≤ length cs) (lo : m ≤ length os) (ll : m ≤ length ls) (lf : h.gens + h.basis + 1 < length fs) where
   abbrev P : Package
   P = whole_package s ks is cs os ls h m at n

@@ -14,8 +14,8 @@ use borrow.Author.Tests.{eq-eqb, ne_eqb, eqb-false, ltb-false, le-ltb}
 use Rattle.lists.specs.All.{All, done, ◌also◌}
 use Rattle.lists.proofs.Every.{all_map, all_of}
 use Rattle.field.specs.Field.{Operations, Field}
-use Rattle.words.specs.declared.Comparison.{Comparison}
-use Rattle.words.specs.declared.Comparison.TheVariants.{Below, Equal, Above}
+use Rattle.std.specs.declared.cmp.Ordering.{Ordering}
+use Rattle.std.specs.declared.cmp.Ordering.TheVariants.{Less, Equal, Greater}
 use Rattle.words.specs.Word.{Word}
 use Rattle.words.specs.Order.{Order, Lt, Admissible}
 use Rattle.algebra.specs.Poly.{Poly, coeff, sub}
@@ -136,10 +136,10 @@ module _ {K : Operations} (F : Field K) {O : Order} (A : Admissible O) where
     unfolding is_under
     under_iff m x = (to (O (top G x) m), λ e. rw (is_under, e))
       where
-        to : (o : Comparison) → ◌≡◌ {A = Bool} (elim o [ Below ↦ true | Equal ↦ false | Above ↦ false ]) true → o ≡ Below
-        to Below e = refl
+        to : (o : Ordering) → ◌≡◌ {A = Bool} (elim o [ Less ↦ true | Equal ↦ false | Greater ↦ false ]) true → o ≡ Less
+        to Less e = refl
         to Equal e = absurd (true≢false (sym e))
-        to Above e = absurd (true≢false (sym e))
+        to Greater e = absurd (true≢false (sym e))
 
     -- one pair: its lines are below its word, and their sum is its difference
     unfoldable pub Certifies : Pair → List Line → Type 0

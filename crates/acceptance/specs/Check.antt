@@ -1,7 +1,7 @@
 -- The check: the first refusal of 8 and 10 to 15 in document 01's order, or none. (Document 02, P2: 9 is no longer met.)
 use Rattle.std.specs.Prelude.{Bool, true, false, List, [], ◌∷◌, ℕ, suc, eqb, ltb, length}
 use Rattle.field.specs.Field.{Operations, field_of}
-use Rattle.words.specs.declared.Comparison.TheVariants.{Below, Equal, Above}
+use Rattle.std.specs.declared.cmp.Ordering.TheVariants.{Less, Equal, Greater}
 use Rattle.words.specs.Word.{Word}
 use Rattle.words.specs.Order.{Order, word_order}
 use Rattle.algebra.specs.Poly.{Poly}
@@ -57,7 +57,7 @@ any_line x = true
 -- The test of the O lines of a pair with overlap word m: left × leading word × right is strictly below m.
 unfoldable pub is_under : Order → Family → Word → Line → Bool
 unfolding top
-is_under O G m x = elim (O (top G x) m) [ Below ↦ true | Equal ↦ false | Above ↦ false ]
+is_under O G m x = elim (O (top G x) m) [ Less ↦ true | Equal ↦ false | Greater ↦ false ]
 
 -- An item's verdict: 14 where a line fails its test, 10 where one leaves over 512 terms; at the item's end a nonzero rest gives number n at the item.
 unfoldable pub sum_verdict : ℕ → ℕ → Left → Verdict

@@ -6,8 +6,9 @@ use native.Mathlib.Omega.{arith}
 use lib.ListN.{length}
 use Rattle.working.specs.Family.{family_at}
 use Rattle.package.specs.declared.Head.{Head}
-use Rattle.package.specs.declared.Reading.{Reading}
-use Rattle.package.specs.declared.Reading.TheVariants.{Whole}
+use Rattle.std.specs.Prelude.{Result, Ok}
+use Rattle.package.specs.declared.PackageAt.{PackageAt}
+use Rattle.package.specs.declared.Refusal.{Refusal}
 use Rattle.package.specs.Held.{held_terms, seen_all, count_all, gens_all, basis_all, spot_all, line_all, LineHeld, FirstsHeld, WordsInside, StartsMarked}
 use Rattle.package.specs.Package.{Package, refused, read, read_package, package_limits, first_sum}
 use Rattle.package.specs.Readable.{SumsInOrder}
@@ -35,7 +36,7 @@ pub record PackageRead (bytes coefs starts lens firsts : List ℕ) (h : Head) (m
   pub sums : sums_at bytes at line ≡ whole.sums
 
 -- What the reader's contract says is all of that.
-module _ (s ks is cs os ls fs : List ℕ) (h : Head) (m at n : ℕ) (e : seen_all s ks is cs os ls (Whole h m at n) ≡ read_package s)
+module _ (s ks is cs os ls fs : List ℕ) (h : Head) (m at n : ℕ) (e : seen_all s ks is cs os ls (Ok (record { head = h; terms = m; at = at; line = n })) ≡ read_package s)
     (marked : StartsMarked h ks is m fs) (few : m ≤ 1024) (inside : WordsInside s os ls m)
     (lc : m ≤ length cs) (lo : m ≤ length os) (ll : m ≤ length ls) (lf : h.gens + h.basis + 1 < length fs)
     (low : at ≤ length s) (small : n ≤ at + 4) (first : n ≡ first_sum m) where
@@ -66,7 +67,7 @@ module _ (s ks is cs os ls fs : List ℕ) (h : Head) (m at n : ℕ) (e : seen_al
   }
 
 -- The same from the reader's answer r, as its contract tells.
-pub answered : (s ks is cs os ls fs : List ℕ) (h : Head) (m at n : ℕ) (r : Reading) → r ≡ Whole h m at n → seen_all s ks is cs os ls r ≡ read_package s
+pub answered : (s ks is cs os ls fs : List ℕ) (h : Head) (m at n : ℕ) (r : Result PackageAt Refusal) → r ≡ Ok (record { head = h; terms = m; at = at; line = n }) → seen_all s ks is cs os ls r ≡ read_package s
     → (count_all r ≤ 1024) × WordsInside s os ls (count_all r) → (gens_all r ≤ 32) × (basis_all r ≤ 64)
     → (spot_all r ≤ length s) × (line_all r ≤ spot_all r + 4) × LineHeld r → FirstsHeld ks is fs r
     → length cs ≡ 1024 → length os ≡ 1024 → length ls ≡ 1024 → length fs ≡ 98 → PackageRead s cs os ls fs h m at n

@@ -1,15 +1,17 @@
 -- A package that was read, and its table: what 8 refuses is refused, what the check asks holds of the table, and what it answers is the
 -- package's acceptance.
-use mathlib.Core.Path.{◌≡◌, refl, sym, ◌∙◌, ap, ap₂, subst}
+use mathlib.Core.Path.{◌≡◌, refl, sym, ◌∙◌, ap, subst}
 use mathlib.Core.List.{List}
 use Prim.Native.Nat.{ℕ, ◌+◌}
+use lib.ListN.{length}
+use Rattle.std.specs.Prelude.{Result, Ok, Err}
 use Rattle.words.specs.Order.{word_order}
-use Rattle.words.specs.Laid.{laid_words}
 use Rattle.field.specs.Field.{field_of}
 use Rattle.algebra.specs.Poly.{Poly}
-use Rattle.overlaps.specs.Overlaps.{leads}
+use Rattle.overlaps.specs.Overlaps.{leads, overlaps}
 use Rattle.working.specs.Family.{family_at}
 use Rattle.package.specs.declared.Head.{Head}
+use Rattle.package.specs.declared.Refusal.{Refusal}
 use Rattle.package.specs.Package.{Package, refused, read}
 use Rattle.package.specs.Readable.{Readable}
 use Rattle.package.specs.Sums.{SumLine}
@@ -17,7 +19,8 @@ use Rattle.package.proofs.PackageTexts.{reads-written}
 use Rattle.acceptance.specs.Content.{relations, basis}
 use Rattle.acceptance.specs.Check.{Verdict, refusal, fine, then_judge, basis_judged, sums_verdict, checked}
 use Rattle.acceptance.specs.Acceptance.{judged_by, acceptance}
-use Rattle.basis.specs.Heads.{HeadsOf}
+use Rattle.overlapsearch.specs.declared.leading.LeadingWords.{LeadingWords}
+use Rattle.overlapsearch.specs.Leading.{words_in}
 use Rattle.sumlines.specs.Lines.{sums_at}
 use Rattle.sumorder.specs.Reached.{SumsStart}
 use Rattle.sumorder.proofs.Row.{then-refused, then-fine}
@@ -25,25 +28,10 @@ use Rattle.table.specs.Table.{prime_in, letters_in, gens_in, basis_count_in, fie
 use Rattle.table.specs.Polynomials.{relations_in, basis_in}
 use Rattle.table.specs.Tabled.{Tabled}
 use Rattle.tablesums.specs.Heading.{head_in}
-use Rattle.tablesums.specs.Leading.{HeadsIn}
+use Rattle.tablesums.specs.Leading.{LeadsIn}
 use Rattle.lapsums.specs.Answer.{answer_of}
-use Rattle.lapsums.specs.declared.Checked.{Checked}
-use Rattle.lapsums.specs.declared.Checked.TheVariants.{Rejected, Accepted}
-use Rattle.accepting.specs.Accepted.{TableAccepted}
+use Rattle.accepting.specs.Accepted.{TableAccepted, Accepts}
 use Rattle.accepting.proofs.PackageRead.{PackageRead}
-
--- The numbers of an answer, and whether it rejects.
-number_of : Checked → ℕ
-number_of (Rejected n k) = n
-number_of (Accepted c) = 0
-
-place_of : Checked → ℕ
-place_of (Rejected n k) = k
-place_of (Accepted c) = c
-
-Rejects : Checked → Type 0
-Rejects (Rejected n k) = Unit {0}
-Rejects (Accepted c) = ⊥
 
 -- Equal fields, polynomials and lines have one verdict.
 same-sums : {p q : ℕ} {rs ts ps qs : List Poly} {xs ys : List SumLine} → p ≡ q → rs ≡ ts → ps ≡ qs → xs ≡ ys
@@ -101,11 +89,8 @@ module _ {bytes cs os ls fs : List ℕ} {h : Head} {m at n : ℕ} (r : PackageRe
     pub begins_in : SumsStart (head_in t) bytes at n
     begins_in = subst (λ (k : Head). SumsStart k bytes at n) (sym head_is) r.begins
 
-    pub heads_in : (heads headlens : List ℕ) → HeadsOf cs os ls bytes fs (h.gens + 1) h.basis heads headlens → HeadsIn t heads headlens bytes
-    heads_in heads headlens H = record {
-      laid = rw T.count H.laid;
-      leading = ap (laid_words heads headlens bytes) T.count ∙ H.leading ∙ ap leads (sym T.basis);
-    }
+    pub heads_in : (words : LeadingWords) → words.count ≡ h.basis → words_in words ≡ leads polys → LeadsIn t words
+    heads_in words count leading = record { count = count ∙ sym T.count; leading = leading ∙ ap leads (sym T.basis) }
 
     -- What it answers.
     abbrev verdict : Verdict
@@ -116,22 +101,22 @@ module _ {bytes cs os ls fs : List ℕ} {h : Head} {m at n : ℕ} (r : PackageRe
         same-sums (T.prime ∙ ap (λ (k : Head). k.p) (sym r.head)) relations_are basis_is r.sums
         ∙ sym (then-fine (basis_judged (basis P)) sums fine-basis)
 
-    -- What the check rejects is refused.
-    pub rejected_refused : (count x y : ℕ) → Rejected x y ≡ answer_of verdict count → acceptance bytes ≡ refused x y
-    unfolding answer_of number_of place_of Rejects
-    rejected_refused count x y q = go verdict refl q
+    -- What the check refuses is refused.
+    pub rejected_refused : (count : ℕ) (r : Refusal) → Err r ≡ answer_of verdict count → acceptance bytes ≡ refused r.number r.place
+    unfolding answer_of
+    rejected_refused count r q = go verdict refl q
       where
-        go : (v : Verdict) → verdict ≡ v → Rejected x y ≡ answer_of v count → acceptance bytes ≡ refused x y
-        go (refusal i j) z q = judged (refusal i j) (sym verdict_is ∙ z) ∙ ap₂ refused (sym (ap number_of q)) (sym (ap place_of q))
-        go fine z q = absurd (subst Rejects q tt)
+        go : (v : Verdict) → verdict ≡ v → Err r ≡ answer_of v count → acceptance bytes ≡ refused r.number r.place
+        go (refusal i j) z q = let e : r ≡ record { number = i; place = j } = cc in rw e (judged (refusal i j) (sym verdict_is ∙ z))
+        go fine z q = absurd cc
 
     -- What the check accepts is accepted, with the count of its overlaps and inclusions.
-    pub accepted-taken : (count c : ℕ) → Accepted c ≡ answer_of verdict count → TableAccepted bytes t × (c ≡ count)
-    unfolding answer_of place_of Rejects
+    pub accepted-taken : (count c : ℕ) → Ok c ≡ answer_of verdict count → TableAccepted bytes t × (c ≡ count)
+    unfolding answer_of
     accepted-taken count c q = go verdict refl q
       where
-        go : (v : Verdict) → verdict ≡ v → Accepted c ≡ answer_of v count → TableAccepted bytes t × (c ≡ count)
-        go (refusal i j) z q = absurd (subst Rejects (sym q) tt)
+        go : (v : Verdict) → verdict ≡ v → Ok c ≡ answer_of v count → TableAccepted bytes t × (c ≡ count)
+        go (refusal i j) z q = absurd cc
         go fine z q = (
           record {
             whole = P;
@@ -142,5 +127,11 @@ module _ {bytes cs os ls fs : List ℕ} {h : Head} {m at n : ℕ} (r : PackageRe
             relations = relations_are;
             basis = basis_is;
           },
-          ap place_of q,
+          cc,
         )
+
+    -- The check's answer is right for the bytes and the table.
+    pub checked_accepts : (a : Result ℕ Refusal) → a ≡ answer_of verdict (length (overlaps (leads (basis_in t)))) → Accepts bytes t a
+    unfolding Accepts
+    checked_accepts (Err x) q = rejected_refused _ x q
+    checked_accepts (Ok c) q = accepted-taken _ c q

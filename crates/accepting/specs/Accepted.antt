@@ -1,5 +1,6 @@
 -- A package that was accepted, in its table.
-use Rattle.std.specs.Prelude.{◌≡◌, List, ℕ, length}
+use Rattle.std.specs.Prelude.{◌≡◌, List, ℕ, length, Result, Ok, Err}
+use Rattle.package.specs.declared.Refusal.{Refusal}
 use Rattle.package.specs.Package.{Package, refused, read}
 use Rattle.package.specs.Readable.{Readable}
 use Rattle.overlaps.specs.Overlaps.{leads, overlaps}
@@ -8,8 +9,6 @@ use Rattle.acceptance.specs.Acceptance.{acceptance}
 use Rattle.table.specs.Polynomials.{relations_in, basis_in}
 use Rattle.table.specs.Tabled.{Tabled}
 use Rattle.tablesums.specs.Heading.{head_in}
-use Rattle.accepting.specs.declared.Accepting.{Accepting}
-use Rattle.accepting.specs.declared.Accepting.TheVariants.{Turned, Taken}
 
 -- The bytes are accepted as a package, and t is its table.
 pub record TableAccepted (bytes t : List ℕ) : Type 0 where
@@ -22,7 +21,7 @@ pub record TableAccepted (bytes t : List ℕ) : Type 0 where
   pub basis : basis_in t ≡ basis whole
 
 -- What the answer of reading and checking says of the bytes, and of the table.
-unfoldable pub Accepts : List ℕ → List ℕ → Accepting → Type 0
+unfoldable pub Accepts : List ℕ → List ℕ → Result ℕ Refusal → Type 0
 unfolding acceptance overlaps leads
-Accepts bytes t (Turned n k) = acceptance bytes ≡ refused n k
-Accepts bytes t (Taken count) = TableAccepted bytes t × (count ≡ length (overlaps (leads (basis_in t))))
+Accepts bytes t (Err r) = acceptance bytes ≡ refused r.number r.place
+Accepts bytes t (Ok count) = TableAccepted bytes t × (count ≡ length (overlaps (leads (basis_in t))))

@@ -11,8 +11,8 @@ use native.Mathlib.Decide.{ℕ_discrete}
 use borrow.Author.Tests.{eq-eqb, ne_eqb}
 use Rattle.field.specs.Field.{Operations, Field}
 use Rattle.field.proofs.Derived.{red-zero, zero-add, red-add-left, add_left_comm}
-use Rattle.words.specs.declared.Comparison.{Comparison}
-use Rattle.words.specs.declared.Comparison.TheVariants.{Below, Equal, Above}
+use Rattle.std.specs.declared.cmp.Ordering.{Ordering}
+use Rattle.std.specs.declared.cmp.Ordering.TheVariants.{Less, Equal, Greater}
 use Rattle.lists.specs.All.{All, done, ◌also◌}
 use Rattle.words.specs.Word.{Word}
 use Rattle.words.specs.Order.{Order, Lt, Admissible}
@@ -40,7 +40,7 @@ module _ (K : Operations) where
 
   -- where a term goes, as code finds the place
   module _ (O : Order) (t : Term) where
-    pub insert-past : (s : Term) (f : Poly) → O t.word s.word ≡ Below → insert K O t (s ∷ f) ≡ s ∷ insert K O t f
+    pub insert-past : (s : Term) (f : Poly) → O t.word s.word ≡ Less → insert K O t (s ∷ f) ≡ s ∷ insert K O t f
     unfolding insert
     insert-past s f e = rw (insert, e)
 
@@ -48,7 +48,7 @@ module _ (K : Operations) where
     unfolding insert
     insert-onto s f e = rw (insert, e)
 
-    pub insert-before : (s : Term) (f : Poly) → O t.word s.word ≡ Above → insert K O t (s ∷ f) ≡ put K t.coef t.word (s ∷ f)
+    pub insert-before : (s : Term) (f : Poly) → O t.word s.word ≡ Greater → insert K O t (s ∷ f) ≡ put K t.coef t.word (s ∷ f)
     unfolding insert
     insert-before s f e = rw (insert, e)
 
@@ -62,10 +62,10 @@ module _ (K : Operations) where
   insert-words O P t [] p done = put-words P t.coef t.word [] p done
   insert-words O P t (s ∷ f) p (q also qs) = go (O t.word s.word) refl (insert-words O P t f p qs)
     where
-      go : (c : Comparison) → O t.word s.word ≡ c → All (λ s. P s.word) (insert K O t f) → All (λ s. P s.word) (insert K O t (s ∷ f))
-      go Below e h = rw (insert-past O t s f e) (q also h)
+      go : (c : Ordering) → O t.word s.word ≡ c → All (λ s. P s.word) (insert K O t f) → All (λ s. P s.word) (insert K O t (s ∷ f))
+      go Less e h = rw (insert-past O t s f e) (q also h)
       go Equal e h = rw (insert-onto O t s f e) (put-words P _ s.word f q qs)
-      go Above e h = rw (insert-before O t s f e) (put-words P t.coef t.word (s ∷ f) p (q also qs))
+      go Greater e h = rw (insert-before O t s f e) (put-words P t.coef t.word (s ∷ f) p (q also qs))
 
   -- every word of the sum is a word of one of the two
   pub plus-words : (O : Order) (P : Word → Type 0) (f g : Poly) → All (λ t. P t.word) f → All (λ t. P t.word) g → All (λ t. P t.word) (plus K O f g)
@@ -121,24 +121,24 @@ module _ {K : Operations} (F : Field K) {O : Order} (A : Admissible O) where
   insert-coeff t [] u = put-coeff t.coef t.word [] u
   insert-coeff t (s ∷ f) u = go (O t.word s.word) refl (insert-coeff t f u)
     where
-      go : (c : Comparison) → O t.word s.word ≡ c
+      go : (c : Ordering) → O t.word s.word ≡ c
           → coeff K (insert K O t f) u ≡ add (where_same t.word u t.coef) (coeff K f u)
           → coeff K (insert K O t (s ∷ f)) u ≡ add (where_same t.word u t.coef) (coeff K (s ∷ f) u)
-      go Below e h = rw (insert-past K O t s f e) (coeff-cons F s (insert K O t f) u ∙ rw (h, coeff-cons F s f u) (add_left_comm F _ _ _))
+      go Less e h = rw (insert-past K O t s f e) (coeff-cons F s (insert K O t f) u ∙ rw (h, coeff-cons F s f u) (add_left_comm F _ _ _))
       go Equal e h =
           let p = A.equal t.word s.word e in
           rw (insert-onto K O t s f e) (put-coeff _ s.word f u ∙ rw (coeff-cons F s f u, p, where_add, add_assoc))
-      go Above e h = rw (insert-before K O t s f e) (put-coeff t.coef t.word (s ∷ f) u)
+      go Greater e h = rw (insert-before K O t s f e) (put-coeff t.coef t.word (s ∷ f) u)
 
   pub insert-written : (t : Term) {f : Poly} → Written K O f → Written K O (insert K O t f)
   unfolding insert
   insert-written t zero = put_written t.coef t.word [] done zero
   insert-written t (term {t = s} {f = f} a b c d) = go (O t.word s.word) refl (insert-written t d)
     where
-      go : (k : Comparison) → O t.word s.word ≡ k → Written K O (insert K O t f) → Written K O (insert K O t (s ∷ f))
-      go Below e h = rw (insert-past K O t s f e) (term a b (insert-words K O (λ u. Lt O u s.word) t f e c) h)
+      go : (k : Ordering) → O t.word s.word ≡ k → Written K O (insert K O t f) → Written K O (insert K O t (s ∷ f))
+      go Less e h = rw (insert-past K O t s f e) (term a b (insert-words K O (λ u. Lt O u s.word) t f e c) h)
       go Equal e h = rw (insert-onto K O t s f e) (put_written _ s.word f c d)
-      go Above e h =
+      go Greater e h =
           let x = lt_of_above A t.word s.word e in
           rw (insert-before K O t s f e) (put_written t.coef t.word (s ∷ f) (x also all_map (λ r y. A.trans _ _ _ y x) c) (term a b c d))
 

@@ -2,7 +2,7 @@
 -- It is the canonical form of a polynomial: each has exactly one (`written-written` and `written-coeff`, `written_unique`).
 use Rattle.std.specs.Prelude.{true, false, ◌≢◌, [], ◌∷◌, ℕ, ◌<◌, eqb}
 use Rattle.field.specs.Field.{Operations}
-use Rattle.words.specs.declared.Comparison.TheVariants.{Below, Equal, Above}
+use Rattle.std.specs.declared.cmp.Ordering.TheVariants.{Less, Equal, Greater}
 use Rattle.lists.specs.All.{All}
 use Rattle.words.specs.Word.{Word}
 use Rattle.words.specs.Order.{Order, Lt}
@@ -22,9 +22,9 @@ unfoldable pub insert : Operations → Order → Term → Poly → Poly
 unfolding put
 insert K O t [] = put K t.coef t.word []
 insert K O t (s ∷ f) = elim (O t.word s.word) [
-  | Below ↦ s ∷ insert K O t f
+  | Less ↦ s ∷ insert K O t f
   | Equal ↦ put K (K.add t.coef s.coef) s.word f
-  | Above ↦ put K t.coef t.word (s ∷ f)
+  | Greater ↦ put K t.coef t.word (s ∷ f)
 ]
 
 -- The sum of a written form f and the terms of g, which are added one after the other.

@@ -1,9 +1,13 @@
 -- What check, short form and membership answer, case by case.
 use mathlib.Core.Path.{◌≡◌, refl, sym, ◌∙◌, ap}
 use mathlib.Core.List.{List, [], ◌∷◌}
-use Prim.Native.Nat.{ℕ, zero, suc}
+use mathlib.Core.Bool.{Bool}
+use Prim.Native.Nat.{ℕ, suc}
 use native.Mathlib.Omega.{arith}
 use lib.ListN.{length}
+use borrow.Author.Tests.{ne_eqb}
+use Rattle.std.specs.Int.{from_bool}
+use Rattle.std.specs.Prelude.{nat_eq}
 use Rattle.algebra.specs.Poly.{Poly}
 use Rattle.package.specs.Package.{refused}
 use Rattle.package.specs.Writing.{write_formula}
@@ -14,7 +18,6 @@ use Rattle.table.specs.Polynomials.{basis_in}
 use Rattle.acceptance.specs.Reduction.{refused_by, short_form, reduction}
 use Rattle.services.specs.declared.Checked.{Checked}
 use Rattle.services.specs.declared.Membership.{Membership}
-use Rattle.answering.specs.MemberNumber.{none_left_of}
 use Rattle.services.specs.Services.{check_answer, checked_as, fitted, short_answer, shortened_as, short_output, shortened_into, member_answer, membership_as}
 
 -- The check: a package that is refused, and one that is accepted.
@@ -56,24 +59,15 @@ module _ (bytes text : List ℕ) (budget steps : ℕ) (N : Poly) (e : short_form
   short-written out = ap (short_output out) e
 
   -- Membership: yes where no term is left.
-  pub short-member : (terms r : ℕ) → length N ≡ terms → r ≡ none_left_of terms → record { number = 0; place = 0; steps = steps; member = r } ≡ membership_as bytes text budget
-  unfolding membership_as member_answer none_left_of
-  short-member terms r l q = ap answered (q ∙ ap none_left_of (sym l)) ∙ by_terms N ∙ ap member_answer e
+  pub short-member : (terms : ℕ) → length N ≡ terms
+      → record { number = 0; place = 0; steps = steps; member = from_bool (nat_eq terms 0) } ≡ membership_as bytes text budget
+  unfolding membership_as member_answer
+  short-member terms l = ap answered (sym l) ∙ by_terms N ∙ ap member_answer e
     where
       answered : ℕ → Membership
-      answered k = record { number = 0; place = 0; steps = steps; member = k }
+      answered k = record { number = 0; place = 0; steps = steps; member = from_bool (nat_eq k 0) }
 
-      by_terms : (f : Poly) → answered (none_left_of (length f)) ≡ member_answer (short_form f steps)
+      by_terms : (f : Poly) → answered (length f) ≡ member_answer (short_form f steps)
       by_terms [] = refl
-      by_terms (t ∷ f) = refl
-
--- Whether no term is left.
-pub none_left : (n : ℕ) → n ≡ 0 → 1 ≡ none_left_of n
-unfolding none_left_of
-none_left zero e = refl
-none_left (suc n) e = absurd (omega arith)
-
-pub some_left : (n : ℕ) → (n ≡ 0 → ⊥) → 0 ≡ none_left_of n
-unfolding none_left_of
-some_left zero e = absurd (e refl)
-some_left (suc n) e = refl
+      by_terms (t ∷ f) =
+          ap (λ (b : Bool). record { number = 0; place = 0; steps = steps; member = from_bool b }) (ne_eqb (suc (length f)) 0 (λ z. omega arith))

@@ -3,8 +3,8 @@
 ghost use Rattle.std.specs.Prelude.{◌≡◌};
 ghost use Rattle.services.specs.Services.{checked_as};
 
-use accepting::Accepting;
 use accepting::accept::accept;
+use packedterms::WorkingFormula;
 use services::Checked;
 
 // Checks a package. Any bytes are taken.
@@ -12,18 +12,20 @@ pub fn check_package(package: &[u8]) -> Checked
     ensures { result ≡ checked_as «package».now }
 {
     let mut t = [0u64; 3424];
-    let mut c = [0u32; 560];
-    let mut l = [0u32; 560];
-    let mut w = [0u64; 3360];
-    let mut o = [0u16; 560];
-    let r = accept(package, &mut t, &mut c, &mut l, &mut w, &mut o);
-    match r {
-        Accepting::Turned { number, place } => Checked {
-            number: number as u64,
-            place: place as u64,
+    let mut f = WorkingFormula {
+        coefs: [0; 560],
+        sizes: [0; 560],
+        blocks: [0; 3360],
+        places: [0; 560],
+        terms: 0,
+    };
+    match accept(package, &mut t, &mut f) {
+        Err(refusal) => Checked {
+            number: u64::from(refusal.number),
+            place: refusal.place as u64,
             overlaps: 0,
         },
-        Accepting::Taken { overlaps } => Checked {
+        Ok(overlaps) => Checked {
             number: 0,
             place: 0,
             overlaps: overlaps as u64,

@@ -1,4 +1,4 @@
-// The services check, short form and membership: the answer of accept or reduce, with the table and the working arrays that they need, as the struct
+// The services check, short form and membership: the answer of accept or reduce, with the table and the working formula that they need, as the struct
 // that C sees.
 #![tactic(auto)]
 

@@ -3,7 +3,7 @@
 ghost use Rattle.std.specs.Prelude.{◌≡◌, length};
 ghost use Rattle.services.specs.Services.{shortened_as, shortened_into};
 
-use reducing::Reduced;
+use packedterms::WorkingFormula;
 use reducing::reduce::reduce;
 use services::Shortened;
 use shortwriting::short::{refusal, write_short};
@@ -14,15 +14,15 @@ pub fn shorten(package: &[u8], formula: &[u8], budget: u32, out: &mut [u8]) -> S
     ensures out_after { out.new ≡ shortened_into «package».now formula.now budget out.old }
 {
     let mut t = [0u64; 3424];
-    let mut c = [0u32; 560];
-    let mut l = [0u32; 560];
-    let mut w = [0u64; 3360];
-    let mut o = [0u16; 560];
-    let r = reduce(
-        package, formula, budget, &mut t, &mut c, &mut l, &mut w, &mut o,
-    );
-    match r {
-        Reduced::Refused { number, place } => refusal(number as u64, place as u64),
-        Reduced::Short { terms, steps } => write_short(&t, &c, &l, &w, &o, terms, steps, out),
+    let mut f = WorkingFormula {
+        coefs: [0; 560],
+        sizes: [0; 560],
+        blocks: [0; 3360],
+        places: [0; 560],
+        terms: 0,
+    };
+    match reduce(package, formula, budget, &mut t, &mut f) {
+        Err(refused) => refusal(u64::from(refused.number), refused.place as u64),
+        Ok(steps) => write_short(&t, &f, steps, out),
     }
 }

@@ -1,4 +1,3 @@
--- The laws that refusal 8 is proved by, and those that other crates cite: what a number tells, and what an answer on a basis tells.
-pub mod ToldNumbers
+-- The laws that refusal 8 is proved by.
 pub mod LeadingHeads
 pub mod BasisAnswers

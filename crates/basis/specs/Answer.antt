@@ -1,16 +1,15 @@
--- What the polynomials of a basis are judged, and where their leading words then lie.
-use Rattle.std.specs.Prelude.{List, ℕ}
+-- The verdict that an answer tells, and where a basis's leading words lie once its polynomials are judged.
+use Rattle.std.specs.Prelude.{List, ℕ, Result, Ok, Err}
+use Rattle.package.specs.declared.Refusal.{Refusal}
 use Rattle.acceptance.specs.Check.{Verdict, refusal, fine}
 use Rattle.basis.specs.Heads.{HeadsOf}
-use Rattle.basis.specs.declared.BasisAnswer.{BasisAnswer}
-use Rattle.basis.specs.declared.BasisAnswer.TheVariants.{Unsound, Sound}
 
--- The verdict of the polynomials.
-unfoldable pub basis_verdict : BasisAnswer → Verdict
-basis_verdict (Unsound n k) = refusal n k
-basis_verdict Sound = fine
+-- The verdict: a refusal's number and place, or fine, whatever the answer hands on.
+unfoldable pub verdict_of : {A : Type 0} → Result A Refusal → Verdict
+verdict_of (Err r) = refusal r.number r.place
+verdict_of (Ok x) = fine
 
--- Where they are sound, heads and headlens lay the leading words.
-unfoldable pub HeadsWhere : List ℕ → List ℕ → List ℕ → List ℕ → List ℕ → ℕ → ℕ → List ℕ → List ℕ → BasisAnswer → Type 0
-HeadsWhere coefs starts lens bytes firsts base n heads headlens (Unsound k p) = Unit {0}
-HeadsWhere coefs starts lens bytes firsts base n heads headlens Sound = HeadsOf coefs starts lens bytes firsts base n heads headlens
+-- Where the polynomials are sound, heads and headlens lay the leading words.
+unfoldable pub HeadsWhere : List ℕ → List ℕ → List ℕ → List ℕ → List ℕ → ℕ → ℕ → List ℕ → List ℕ → Result (Unit {0}) Refusal → Type 0
+HeadsWhere coefs starts lens bytes firsts base n heads headlens (Err r) = Unit {0}
+HeadsWhere coefs starts lens bytes firsts base n heads headlens (Ok u) = HeadsOf coefs starts lens bytes firsts base n heads headlens

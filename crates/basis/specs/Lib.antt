@@ -1,4 +1,3 @@
-pub mod Told
 pub mod Lies
 pub mod Heads
 pub mod Answer

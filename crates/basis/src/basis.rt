@@ -4,9 +4,9 @@ ghost use Rattle.std.specs.Prelude.{◌≡◌, ◌≤◌, length};
 ghost use Rattle.working.specs.Family.{family_at};
 ghost use Rattle.acceptance.specs.Check.{basis_judged};
 ghost use Rattle.basis.specs.Lies.{BasisLies};
-ghost use Rattle.basis.specs.Answer.{basis_verdict, HeadsWhere};
+ghost use Rattle.basis.specs.Answer.{verdict_of, HeadsWhere};
 
-use crate::BasisAnswer;
+use package::Refusal;
 
 // 8 for all of count polynomials; where none is zero, heads and headlens lay their leading words, else they are scratch.
 pub fn judge_basis(
@@ -19,25 +19,23 @@ pub fn judge_basis(
     count: usize,
     heads: &mut [usize],
     headlens: &mut [usize],
-) -> BasisAnswer
+) -> Result<(), Refusal>
     requires basis_lies { BasisLies coefs.now starts.now lens.now bytes.now firsts.now base count }
     requires count_in_bounds { (count ≤ length heads.old) × (count ≤ length headlens.old) }
-    ensures result_value { basis_verdict result ≡ basis_judged (family_at coefs.now starts.now lens.now bytes.now firsts.now base count) }
+    ensures result_value { verdict_of result ≡ basis_judged (family_at coefs.now starts.now lens.now bytes.now firsts.now base count) }
     ensures heads_where { HeadsWhere coefs.now starts.now lens.now bytes.now firsts.now base count heads.new headlens.new result }
 {
-    let mut g = 0;
-    while g < count {
+    for g in 0..count {
         let a = firsts[base + g];
         let b = firsts[base + g + 1];
         if b <= a {
-            return BasisAnswer::Unsound {
+            return Err(Refusal {
                 number: 8,
                 place: g + 1,
-            };
+            });
         }
         heads[g] = starts[a] as usize;
-        headlens[g] = lens[a] as usize;
-        g += 1;
+        headlens[g] = usize::from(lens[a]);
     }
-    BasisAnswer::Sound
+    Ok(())
 }

@@ -3,10 +3,3 @@
 #![tactic(auto)]
 
 pub mod basis;
-
-// What the polynomials of a basis are judged: refused with number and place, or sound.
-#[derive(Clone, Copy)]
-pub enum BasisAnswer {
-    Unsound { number: u32, place: usize },
-    Sound,
-}

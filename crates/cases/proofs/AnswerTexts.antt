@@ -4,6 +4,7 @@ use mathlib.Core.Bool.{Bool}
 use mathlib.Core.List.{List, [], ◌∷◌, ◌++◌}
 use Prim.Native.Nat.{ℕ, ◌+◌, ◌≤◌}
 use borrow.Author.Tests.{eq-eqb, ne_eqb}
+use native.Mathlib.Omega.{arith}
 use lib.ListN.{length, get_or, take, drop}
 use lib.Seq.{sets}
 use Rattle.words.specs.Word.{Word}
@@ -24,31 +25,27 @@ module _ (head bytes text : List ℕ) where
 
   pub answer-checked : letter ≡ 67 → answer_text head bytes text ≡ checked_text (checked_as bytes)
   unfolding answer_text
-  answer-checked c = rw (answer_text, eq-eqb letter 67 c)
+  answer-checked h = rw (answer_text, eq-eqb letter 67 h)
 
-  pub answer_listed : (letter ≡ 67 → ⊥) → letter ≡ 76 → answer_text head bytes text ≡ listed_text bytes (room_said head)
+  pub answer_listed : letter ≡ 76 → answer_text head bytes text ≡ listed_text bytes (room_said head)
   unfolding answer_text
-  answer_listed c l = rw (answer_text, ne_eqb letter 67 c, eq-eqb letter 76 l)
+  answer_listed h = rw (answer_text, ne_eqb letter 67 (λ q. omega arith), eq-eqb letter 76 h)
 
-  pub answer_shortened : (letter ≡ 67 → ⊥) → (letter ≡ 76 → ⊥) → letter ≡ 83 → answer_text head bytes text ≡ shortened_text bytes text (budget_said head) (room_said head)
+  pub answer_shortened : letter ≡ 83 → answer_text head bytes text ≡ shortened_text bytes text (budget_said head) (room_said head)
   unfolding answer_text
-  answer_shortened c l s = rw (answer_text, ne_eqb letter 67 c, ne_eqb letter 76 l, eq-eqb letter 83 s)
+  answer_shortened h = rw (answer_text, ne_eqb letter 67 (λ q. omega arith), ne_eqb letter 76 (λ q. omega arith), eq-eqb letter 83 h)
 
-  pub answer_membership : (letter ≡ 67 → ⊥) → (letter ≡ 76 → ⊥) → (letter ≡ 83 → ⊥) → letter ≡ 77
-      → answer_text head bytes text ≡ membership_text (membership_as bytes text (budget_said head))
+  pub answer_membership : letter ≡ 77 → answer_text head bytes text ≡ membership_text (membership_as bytes text (budget_said head))
   unfolding answer_text
-  answer_membership c l s m = rw (answer_text, ne_eqb letter 67 c, ne_eqb letter 76 l, ne_eqb letter 83 s, eq-eqb letter 77 m)
+  answer_membership h = rw (answer_text, ne_eqb letter 67 (λ q. omega arith), ne_eqb letter 76 (λ q. omega arith), ne_eqb letter 83 (λ q. omega arith), eq-eqb letter 77 h)
 
-  pub answer-standing : (letter ≡ 67 → ⊥) → (letter ≡ 76 → ⊥) → (letter ≡ 83 → ⊥) → (letter ≡ 77 → ⊥) → letter ≡ 87
-      → answer_text head bytes text ≡ standing_text bytes text (budget_said head)
+  pub answer-standing : letter ≡ 87 → answer_text head bytes text ≡ standing_text bytes text (budget_said head)
   unfolding answer_text
-  answer-standing c l s m w = rw (answer_text, ne_eqb letter 67 c, ne_eqb letter 76 l, ne_eqb letter 83 s, ne_eqb letter 77 m, eq-eqb letter 87 w)
+  answer-standing h = rw (answer_text, ne_eqb letter 67 (λ q. omega arith), ne_eqb letter 76 (λ q. omega arith), ne_eqb letter 83 (λ q. omega arith), ne_eqb letter 77 (λ q. omega arith), eq-eqb letter 87 h)
 
-  pub answer-packed : (letter ≡ 67 → ⊥) → (letter ≡ 76 → ⊥) → (letter ≡ 83 → ⊥) → (letter ≡ 77 → ⊥) → (letter ≡ 87 → ⊥) → letter ≡ 78
-      → answer_text head bytes text ≡ packed_text bytes
+  pub answer-packed : letter ≡ 78 → answer_text head bytes text ≡ packed_text bytes
   unfolding answer_text
-  answer-packed c l s m w n =
-      rw (answer_text, ne_eqb letter 67 c, ne_eqb letter 76 l, ne_eqb letter 83 s, ne_eqb letter 77 m, ne_eqb letter 87 w, eq-eqb letter 78 n)
+  answer-packed h = rw (answer_text, ne_eqb letter 67 (λ q. omega arith), ne_eqb letter 76 (λ q. omega arith), ne_eqb letter 83 (λ q. omega arith), ne_eqb letter 77 (λ q. omega arith), ne_eqb letter 87 (λ q. omega arith), eq-eqb letter 78 h)
 
   pub answer_program : (letter ≡ 67 → ⊥) → (letter ≡ 76 → ⊥) → (letter ≡ 83 → ⊥) → (letter ≡ 77 → ⊥) → (letter ≡ 87 → ⊥) → (letter ≡ 78 → ⊥)
       → answer_text head bytes text ≡ program_text bytes

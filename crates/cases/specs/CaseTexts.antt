@@ -25,7 +25,7 @@ membership_text a = numbers_line (a.number ∷ a.place ∷ a.steps ∷ a.member 
 
 -- A service with an output slice: number, place, count, how many bytes it wrote, how many behind those were kept; and the bytes written.
 unfoldable pub output_text : ℕ → ℕ → ℕ → ℕ → List ℕ → List ℕ
-unfolding numbers_line count_kept_of
+unfolding numbers_line
 output_text number place count written out =
     numbers_line (number ∷ place ∷ count ∷ written ∷ count_kept_of (drop written out) ∷ []) ++ take written out
 

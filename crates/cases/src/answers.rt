@@ -51,26 +51,15 @@ fn put_answer(text: &mut [u8], at: usize, line: &[u8], package: &[u8], formula: 
     ensures value { (result ≡ at + length (answer_text line.now «package».now formula.now)) × (result ≤ length text.old) }
     ensures text_after { text.new ≡ sets text.old at (answer_text line.now «package».now formula.now) }
 {
-    let service = line[0];
-    if service == b'C' {
-        return put_checked(text, at, package);
+    match line[0] {
+        b'C' => put_checked(text, at, package),
+        b'L' => outputs::put_listed(text, at, line, package),
+        b'S' => outputs::put_shortened(text, at, line, package, formula),
+        b'M' => put_membership(text, at, line, package, formula),
+        b'W' => standing::put_standing(text, at, line, package, formula),
+        b'N' => packed::put_packed(text, at, package),
+        _ => put_printed(text, at, package),
     }
-    if service == b'L' {
-        return outputs::put_listed(text, at, line, package);
-    }
-    if service == b'S' {
-        return outputs::put_shortened(text, at, line, package, formula);
-    }
-    if service == b'M' {
-        return put_membership(text, at, line, package, formula);
-    }
-    if service == b'W' {
-        return standing::put_standing(text, at, line, package, formula);
-    }
-    if service == b'N' {
-        return packed::put_packed(text, at, package);
-    }
-    put_printed(text, at, package)
 }
 
 // All that is printed for a case, written to text from its beginning on. The answer is how many bytes it has.

@@ -6,19 +6,14 @@
 ghost use Rattle.std.specs.Prelude.{◌≡◌, ◌≤◌, length};
 ghost use Rattle.cases.specs.HeadLine.{digit, said, room_said, package_said, formula_said, budget_said};
 
-use lists::numbers::lesser;
-
 // The number that a digit says; 0 for any other byte.
 fn digit_value(d: u8) -> usize
     ensures { (result ≡ digit d) × (result ≤ 9) }
 {
-    if d < 48 {
-        return 0;
+    match d {
+        b'0'..=b'9' => usize::from(d - b'0'),
+        _ => 0,
     }
-    if 57 < d {
-        return 0;
-    }
-    (d - 48) as usize
 }
 
 // The number that at most ten digits say.
@@ -27,10 +22,8 @@ fn number_said(f: &[u8]) -> usize
     ensures { result ≡ said 0 f.now }
 {
     let mut n = 0;
-    let mut i = 0;
-    while i < f.len() {
-        n = n * 10 + digit_value(f[i]);
-        i += 1;
+    for &d in f {
+        n = n * 10 + digit_value(d);
     }
     n
 }
@@ -40,7 +33,7 @@ pub fn room(head: &[u8]) -> usize
     requires { length head.now ≡ 81 }
     ensures { (result ≡ room_said head.now) × (result ≤ 65536) }
 {
-    lesser(number_said(&head[52..57]), 65536)
+    number_said(&head[52..57]).min(65536)
 }
 
 // The package's bytes that a head line says, 65,537 at most.
@@ -48,7 +41,7 @@ pub fn package_len(head: &[u8]) -> usize
     requires { length head.now ≡ 81 }
     ensures { (result ≡ package_said head.now) × (result ≤ 65537) }
 {
-    lesser(number_said(&head[58..63]), 65537)
+    number_said(&head[58..63]).min(65537)
 }
 
 // The formula's bytes that a head line says, 99,999 at most.
@@ -64,5 +57,5 @@ pub fn budget(head: &[u8]) -> u32
     requires { length head.now ≡ 81 }
     ensures { result ≡ budget_said head.now }
 {
-    lesser(number_said(&head[70..80]), 4294967295) as u32
+    number_said(&head[70..80]).min(4294967295) as u32
 }

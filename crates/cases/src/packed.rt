@@ -4,7 +4,6 @@ ghost use Rattle.std.specs.Prelude.{◌≡◌, ◌+◌, ◌≤◌, length};
 ghost use Rattle.std.proofs.lemmas.List.Edits.{sets};
 ghost use Rattle.cases.specs.CaseTexts.{packed_text};
 
-use crate::standing::yes_number;
 use printing::put_numbers_line;
 use trials::vg_trial_pack;
 
@@ -16,9 +15,6 @@ pub fn put_packed(text: &mut [u8], at: usize, w: &[u8]) -> usize
 {
     let p = vg_trial_pack(w);
     let b = p.blocks;
-    put_numbers_line(
-        text,
-        at,
-        &[yes_number(p.fits), b[0], b[1], b[2], b[3], b[4], b[5]],
-    )
+    let yes = u64::from(p.fits);
+    put_numbers_line(text, at, &[yes, b[0], b[1], b[2], b[3], b[4], b[5]])
 }

@@ -3,21 +3,11 @@
 ghost use Rattle.std.specs.Prelude.{◌≡◌, ◌+◌, ◌≤◌, length};
 ghost use Rattle.std.proofs.lemmas.List.Edits.{sets};
 ghost use Rattle.cases.specs.HeadLine.{budget_said};
-ghost use Rattle.cases.specs.CaseTexts.{yes_number, standing_text};
+ghost use Rattle.cases.specs.CaseTexts.{standing_text};
 
 use crate::head;
 use printing::put_numbers_line;
 use trials::vg_trial_stands_at;
-
-// 1 for yes, 0 for no.
-pub fn yes_number(yes: bool) -> u64
-    ensures { result ≡ yes_number yes }
-{
-    if yes {
-        return 1;
-    }
-    0
-}
 
 // b at the place of w that the head line says where others say the budget.
 pub fn put_standing(text: &mut [u8], at: usize, line: &[u8], b: &[u8], w: &[u8]) -> usize
@@ -27,6 +17,6 @@ pub fn put_standing(text: &mut [u8], at: usize, line: &[u8], b: &[u8], w: &[u8])
     ensures text_after { text.new ≡ sets text.old at (standing_text b.now w.now (budget_said line.now)) }
 {
     let stood = vg_trial_stands_at(b, w, head::budget(line) as usize);
-    let yes = yes_number(stood.stands);
+    let yes = u64::from(stood.stands);
     put_numbers_line(text, at, &[yes, stood.compared as u64])
 }

@@ -2,20 +2,23 @@
 use mathlib.Core.Path.{◌≡◌, refl, sym, ap, ◌∙◌}
 use mathlib.Core.Logic.{◌≢◌}
 use mathlib.Core.List.{List, [], ◌∷◌}
-use Prim.Native.Nat.{ℕ, ◌+◌, ◌-◌, ◌≤◌, ◌<◌}
+use Prim.Native.Nat.{ℕ, zero, suc, ◌+◌, ◌-◌, ◌≤◌, ◌<◌}
 use native.Mathlib.Decide.{ℕ_discrete}
 use native.Mathlib.Numerals.{add-one}
 use native.Mathlib.Omega.{arith}
-use lib.ListN.{length, drop}
+use lib.ListN.{length, get_or, drop}
+use Rattle.std.specs.Prelude.{Result, Ok, Err}
 use Rattle.lists.specs.All.{All, done, ◌also◌}
 use Rattle.field.specs.Field.{Operations}
 use Rattle.words.specs.Order.{Order}
 use Rattle.algebra.specs.Ideal.{family}
+use Rattle.package.specs.declared.Refusal.{Refusal}
 use Rattle.package.specs.Names.{sum_b, sum_g, sum_o}
 use Rattle.package.specs.Sums.{SumLine}
-use Rattle.acceptance.specs.Check.{Verdict, fine, then_judge, Side, sides, sums_judged, sums_verdict}
+use Rattle.acceptance.specs.Check.{Verdict, then_judge, Side, sides, sums_judged, sums_verdict}
+use Rattle.basis.specs.Answer.{verdict_of}
 use Rattle.sumlines.specs.Lines.{sums_at}
-use Rattle.sumorder.specs.Reached.{Past, Reached, SumsStart}
+use Rattle.sumorder.specs.Reached.{Reached, SumsStart}
 use Rattle.sumorder.specs.Row.{row_verdict}
 use Rattle.sumorder.proofs.KindOrder.{KindOver, none_first, basis-over, relations-over, reached_next}
 use Rattle.sumorder.proofs.Row.{then-refused, then-fine, sums_are, row_first, row-past}
@@ -23,14 +26,17 @@ use Rattle.table.specs.Table.{gens_in, basis_count_in, field_in, order_in}
 use Rattle.table.specs.Polynomials.{relations_in, basis_in}
 use Rattle.table.proofs.Families.{polynomials-count}
 use Rattle.tablesums.specs.Heading.{head_in}
-use Rattle.kindsums.specs.declared.SumsAnswer.{SumsAnswer}
-use Rattle.kindsums.specs.declared.SumsAnswer.TheVariants.{Refused, Passed}
+use Rattle.kindsums.specs.declared.Behind.{Behind}
 use Rattle.kindsums.specs.Kinds.{side_in}
-use Rattle.kindsums.specs.Judged.{verdict_of, LeftBehind}
-use Rattle.lapsums.specs.declared.Checked.{Checked}
-use Rattle.lapsums.specs.declared.Checked.TheVariants.{Rejected}
+use Rattle.kindsums.specs.Judged.{LeftBehind}
 use Rattle.lapsums.specs.Answer.{answer_of}
 use Rattle.lapsums.proofs.Answers.{refused-answer}
+
+-- The kinds by their places in the row.
+pub kind_at : (g : ℕ) → g < 2 → get_or (sum_b ∷ sum_g ∷ []) g 0 ≡ g + 1
+kind_at zero l = refl
+kind_at (suc zero) l = refl
+kind_at (suc (suc g)) l = absurd (omega arith)
 
 -- The sides from a kind on.
 abbrev left : List ℕ → ℕ → List Side
@@ -93,7 +99,7 @@ module _ (t bytes : List ℕ) (from first : ℕ) where
     row = sym (sums_are K O (relations_in t) (basis_in t) (sums_at bytes from first));
   }
 
-  module _ (at line kind : ℕ) (d : KindsDone at line kind) (l : kind < 3) (r : SumsAnswer) where
+  module _ (at line kind : ℕ) (d : KindsDone at line kind) (l : kind < 3) where
     abbrev ss : List SumLine
     ss = sums_at bytes at line
 
@@ -115,24 +121,21 @@ module _ (t bytes : List ℕ) (from first : ℕ) where
         ∙ ap (λ (ks : List Side). row_verdict K O ks (basis_in t) ss) (sym step.front)
         ∙ d.row
 
-    module _ (v : verdict_of r ≡ this) where
-      pub kinds_refused : (n k count : ℕ) → r ≡ Refused n k → Rejected n k ≡ answer_of all count
-      unfolding verdict_of
-      kinds_refused n k count q = refused-answer all n k count
-          (sym in_parts ∙ then-refused this (row_verdict K O (left t (kind + 1)) (basis_in t) ss) n k (sym v ∙ ap verdict_of q))
+    pub kinds_refused : (r : Refusal) (count : ℕ) → verdict_of {A = Behind} (Err r) ≡ this → Err r ≡ answer_of all count
+    unfolding verdict_of
+    kinds_refused r count v = refused-answer all r count
+        (sym in_parts ∙ then-refused this (row_verdict K O (left t (kind + 1)) (basis_in t) ss) r.number r.place (sym v))
 
-      pub kinds_next : (x n : ℕ) → r ≡ Passed x n → LeftBehind (head_in t) kind (length (side_in t kind).targets) bytes ss r → KindsDone x n (kind + 1)
-      unfolding verdict_of LeftBehind
-      kinds_next x n q b =
-          let (reached, p) : Reached (head_in t) kind (length (side_in t kind).targets + 1) bytes x n × Past kind ss (sums_at bytes x n) = rw q at b in
-          let passed : this ≡ fine = sym v ∙ ap verdict_of q in
-          record {
-            some = omega arith;
-            most = omega arith;
-            reached = rw (add-one kind) (reached_next (head_in t) kind (length (side_in t kind).targets + 1) step.over bytes x n reached);
-            row = sym (row-past K O kind (left t (kind + 1)) (basis_in t) step.sums step.others p)
-                ∙ sym (then-fine this (row_verdict K O (left t (kind + 1)) (basis_in t) ss) passed) ∙ in_parts;
-          }
+    pub kinds_next : (b : Behind) → verdict_of (Ok b) ≡ this → LeftBehind (head_in t) kind (length (side_in t kind).targets) bytes ss (Ok b)
+        → KindsDone b.at b.line (kind + 1)
+    unfolding verdict_of LeftBehind
+    kinds_next b v (reached, p) = record {
+      some = omega arith;
+      most = omega arith;
+      reached = rw (add-one kind) (reached_next (head_in t) kind (length (side_in t kind).targets + 1) step.over bytes b.at b.line reached);
+      row = sym (row-past K O kind (left t (kind + 1)) (basis_in t) step.sums step.others p)
+          ∙ sym (then-fine this (row_verdict K O (left t (kind + 1)) (basis_in t) ss) (sym v)) ∙ in_parts;
+    }
 
   -- No kind is left: the first O line is reached, and what follows of the row answers.
   module _ (at line kind : ℕ) (d : KindsDone at line kind) (l : 3 ≤ kind) where
@@ -142,5 +145,5 @@ module _ (t bytes : List ℕ) (from first : ℕ) where
     pub kinds_behind : Reached (head_in t) sum_o 1 bytes at line
     kinds_behind = rw three at d.reached
 
-    pub kinds_end : (r : Checked) (count : ℕ) → r ≡ answer_of (row_verdict K O [] (basis_in t) (sums_at bytes at line)) count → r ≡ answer_of all count
+    pub kinds_end : (r : Result ℕ Refusal) (count : ℕ) → r ≡ answer_of (row_verdict K O [] (basis_in t) (sums_at bytes at line)) count → r ≡ answer_of all count
     kinds_end r count e = e ∙ ap (λ (v : Verdict). answer_of v count) (rw three at d.row)

@@ -20,10 +20,7 @@ abbrev pub left : List Term → ℕ → ℕ → List Term
 left ys n i = kept (slice i n ys)
 
 -- The slice ys, with j terms closed up and i looked at: storing from j on what is left gives what it gave at the start, when the slice was xs.
-pub record State (xs : List Term) (n : ℕ) : Type 0 where
-  pub ys : List Term
-  pub j : ℕ
-  pub i : ℕ
+pub record State (xs : List Term) (n : ℕ) (ys : List Term) (j i : ℕ) : Type 0 where
   pub low : j ≤ i
   pub within : i ≤ n
   pub len : length ys ≡ length xs
@@ -50,14 +47,8 @@ module _ (ys : List Term) (n i : ℕ) where
       ∙ ap kept (drop-set-lt (i + 1) (take n ys) j t (omega arith))
 
 module _ (xs : List Term) (n : ℕ) (fits : n ≤ length xs) where
-  pub inside : (s : State xs n) → n ≤ length s.ys
-  inside s = let e = s.len in omega arith
-
-  abbrev pub began : State xs n
+  pub began : State xs n xs 0 0
   began = record {
-    ys = xs;
-    j = 0;
-    i = 0;
     low = zero-le;
     within = zero-le;
     len = refl;
@@ -65,75 +56,73 @@ module _ (xs : List Term) (n : ℕ) (fits : n ≤ length xs) where
     stored = refl;
   }
 
-  -- The term at i is dropped.
-  abbrev pub dropped : (s : State xs n) → s.i < n → (get_or s.ys s.i none).coef ≡ 0 → State xs n
-  dropped s h e = record {
-    ys = s.ys;
-    j = s.j;
-    i = s.i + 1;
-    low = let l = s.low in omega arith;
-    within = omega arith;
-    len = s.len;
-    count = ap (λ (l : List Term). s.j + length l) (sym p) ∙ s.count;
-    stored = ap (λ (l : List Term). sets s.ys s.j l) (sym p) ∙ s.stored;
-  }
-    where
-      p : left s.ys n s.i ≡ left s.ys n (s.i + 1)
-      p = left-zero s.ys n s.i h (inside s) e
+  module _ (ys : List Term) (j i : ℕ) (s : State xs n ys j i) where
+    inside : n ≤ length ys
+    inside = let e = s.len in omega arith
 
-  -- The term at i is stored at j.
-  abbrev pub moved : (s : State xs n) → s.i < n → ((get_or s.ys s.i none).coef ≡ 0 → ⊥) → State xs n
-  moved s h e = record {
-    ys = set s.ys s.j t;
-    j = s.j + 1;
-    i = s.i + 1;
-    low = let l = s.low in omega arith;
-    within = omega arith;
-    len = length-set s.ys s.j t ∙ s.len;
-    count = counted;
-    stored = went;
-  }
-    where
-      t : Term
-      t = get_or s.ys s.i none
+    -- The term at i is dropped.
+    pub dropped : i < n → (get_or ys i none).coef ≡ 0 → State xs n ys j (i + 1)
+    dropped h e = record {
+      low = let l = s.low in omega arith;
+      within = omega arith;
+      len = s.len;
+      count = ap (λ (l : List Term). j + length l) (sym p) ∙ s.count;
+      stored = ap (λ (l : List Term). sets ys j l) (sym p) ∙ s.stored;
+    }
+      where
+        p : left ys n i ≡ left ys n (i + 1)
+        p = left-zero ys n i h inside e
 
-      rest : List Term
-      rest = left s.ys n (s.i + 1)
+    -- The term at i is stored at j.
+    pub moved : i < n → ((get_or ys i none).coef ≡ 0 → ⊥) → State xs n (set ys j (get_or ys i none)) (j + 1) (i + 1)
+    moved h e = record {
+      low = let l = s.low in omega arith;
+      within = omega arith;
+      len = length-set ys j t ∙ s.len;
+      count = counted;
+      stored = went;
+    }
+      where
+        t : Term
+        t = get_or ys i none
 
-      p : left s.ys n s.i ≡ t ∷ rest
-      p = left-more s.ys n s.i h (inside s) e
+        rest : List Term
+        rest = left ys n (i + 1)
 
-      q : left (set s.ys s.j t) n (s.i + 1) ≡ rest
-      q = left-set s.ys n s.i s.j t s.low h
+        p : left ys n i ≡ t ∷ rest
+        p = left-more ys n i h inside e
 
-      counted : s.j + 1 + length (left (set s.ys s.j t) n (s.i + 1)) ≡ length (kept (take n xs))
-      counted =
-          let a : length (left s.ys n s.i) ≡ length rest + 1 = ap length p ∙ sym (add-one (length rest)) in
-          let b : length (left (set s.ys s.j t) n (s.i + 1)) ≡ length rest = ap length q in
-          let c = s.count in
-          omega arith
+        q : left (set ys j t) n (i + 1) ≡ rest
+        q = left-set ys n i j t s.low h
 
-      went : sets (set s.ys s.j t) (s.j + 1) (left (set s.ys s.j t) n (s.i + 1)) ≡ sets xs 0 (kept (take n xs))
-      went =
-          ap (λ (l : List Term). sets (set s.ys s.j t) (s.j + 1) l) q
-          ∙ ap (λ (k : ℕ). sets (set s.ys s.j t) k rest) (add-one s.j)
-          ∙ ap (λ (l : List Term). sets s.ys s.j l) (sym p)
-          ∙ s.stored
+        counted : j + 1 + length (left (set ys j t) n (i + 1)) ≡ length (kept (take n xs))
+        counted =
+            let a : length (left ys n i) ≡ length rest + 1 = ap length p ∙ sym (add-one (length rest)) in
+            let b : length (left (set ys j t) n (i + 1)) ≡ length rest = ap length q in
+            let c = s.count in
+            omega arith
 
-  -- At the end nothing is left.
-  pub counted : (s : State xs n) → n ≤ s.i → s.j ≡ length (kept (take n xs))
-  counted s h =
-      let a : length (left s.ys n s.i) ≡ 0 = ap length (left-none s.ys n s.i (inside s) h) in
-      let c = s.count in
-      omega arith
+        went : sets (set ys j t) (j + 1) (left (set ys j t) n (i + 1)) ≡ sets xs 0 (kept (take n xs))
+        went =
+            ap (λ (l : List Term). sets (set ys j t) (j + 1) l) q
+            ∙ ap (λ (k : ℕ). sets (set ys j t) k rest) (add-one j)
+            ∙ ap (λ (l : List Term). sets ys j l) (sym p)
+            ∙ s.stored
 
-  pub ended : (s : State xs n) → n ≤ s.i → s.ys ≡ closed n xs
-  unfolding closed
-  ended s h =
-      let c = counted s h in
-      let l = s.low in
-      let w = s.within in
-      sym (ap (λ (l : List Term). sets s.ys s.j l) (left-none s.ys n s.i (inside s) h))
-      ∙ s.stored
-      ∙ sets-eq (kept (take n xs)) xs 0 (omega arith)
-      ∙ ap (λ (k : ℕ). kept (take n xs) ++ drop k xs) (zero-add (length (kept (take n xs))))
+    -- At the end nothing is left.
+    pub counted : n ≤ i → j ≡ length (kept (take n xs))
+    counted h =
+        let a : length (left ys n i) ≡ 0 = ap length (left-none ys n i inside h) in
+        let c = s.count in
+        omega arith
+
+    pub ended : n ≤ i → ys ≡ closed n xs
+    unfolding closed
+    ended h =
+        let c = counted h in
+        let l = s.low in
+        let w = s.within in
+        sym (ap (λ (l : List Term). sets ys j l) (left-none ys n i inside h))
+        ∙ s.stored
+        ∙ sets-eq (kept (take n xs)) xs 0 (omega arith)
+        ∙ ap (λ (k : ℕ). kept (take n xs) ++ drop k xs) (zero-add (length (kept (take n xs))))

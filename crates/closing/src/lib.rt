@@ -20,15 +20,13 @@ pub fn close_up(terms: &mut [Term], n: usize) -> usize
     ensures terms_after { terms.new ≡ closed n terms.old }
 {
     let mut j: usize = 0;
-    let mut i: usize = 0;
-    while i < n {
+    for i in 0..n {
         let t = terms[i];
         let stays = t.coef != 0;
         if stays {
             terms[j] = t;
             j += 1;
         }
-        i += 1;
     }
     j
 }

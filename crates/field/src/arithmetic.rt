@@ -63,6 +63,7 @@ fn inverse_mod(p: u32, a: u32) -> u32
     requires { (p ≤ 65536) × (0 < a) × (a < p) }
     ensures { (result ≡ inverse_mod p a a) × (result < p) }
 {
+    // A `while`, as no index is counted: what is left falls from remainder to remainder.
     let mut factor = 1;
     let mut left = a;
     while 1 < left {

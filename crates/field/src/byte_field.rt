@@ -7,17 +7,13 @@ ghost use Rattle.field.specs.ByteTables.{power_at, log_at};
 ghost use Rattle.field.specs.Field.{gf256};
 
 use crate::byte_tables::{LOGARITHMS, POWERS};
-use lists::bytes::wide;
 
 // a × b: the logarithms are added, and x^255 is 1.
 pub fn product(a: u32, b: u32) -> u32
     requires { (a < 256) × (b < 256) }
     ensures { (result ≡ gf256.mul a b) × (result < 256) }
 {
-    if a == 0 {
-        return 0;
-    }
-    if b == 0 {
+    if a == 0 || b == 0 {
         return 0;
     }
     let i = logarithm_sum(a, b);
@@ -44,7 +40,7 @@ fn power(i: u32) -> u32
     requires { i < 255 }
     ensures { (result ≡ power_at i) × (result < 256) }
 {
-    wide(POWERS[i as usize])
+    u32::from(POWERS[i as usize])
 }
 
 // The sum of the logarithms of two bytes. The table is copied where it is named, so it is named once.
@@ -53,7 +49,7 @@ fn logarithm_sum(a: u32, b: u32) -> u32
     ensures { (result ≡ log_at a + log_at b) × (result < 509) }
 {
     let table = LOGARITHMS;
-    wide(table[a as usize]) + wide(table[b as usize])
+    u32::from(table[a as usize]) + u32::from(table[b as usize])
 }
 
 // The logarithm of a byte other than 0.
@@ -61,5 +57,5 @@ fn logarithm(a: u32) -> u32
     requires { (0 < a) × (a < 256) }
     ensures { (result ≡ log_at a) × (result < 255) }
 {
-    wide(LOGARITHMS[a as usize])
+    u32::from(LOGARITHMS[a as usize])
 }

@@ -15,22 +15,17 @@ use Rattle.text.specs.Field.{Got, none, some, num_then, num_last, GotWord, none_
 use Rattle.text.specs.Number.{number, write_number}
 use Rattle.text.specs.Pieces.{Pieces, final, piece, pieces, joined, stop, part}
 use Rattle.text.specs.Word.{WordField, no_word, word, word_of, write_word}
-use Rattle.text.specs.declared.Num.{Num}
-use Rattle.text.specs.declared.Num.TheVariants.{Value}
-use Rattle.text.specs.declared.NumAt.{NumAt}
-use Rattle.text.specs.declared.NumAt.TheVariants.{Read}
+use Rattle.std.specs.Prelude.{Option, Some, None}
+use Rattle.text.specs.declared.NumberAt.{NumberAt}
 use Rattle.text.specs.declared.WordAt.{WordAt}
-use Rattle.text.specs.declared.WordAt.TheVariants.{Spans}
-use Rattle.text.specs.declared.WordLen.{WordLen}
-use Rattle.text.specs.declared.WordLen.TheVariants.{Letters}
 
 -- A number with another field behind it.
-module _ (form : List ℕ → Num) (l : List ℕ) (at e : ℕ) (h : e ≡ at + stop 32 (drop at l)) where
+module _ (form : List ℕ → Option ℕ) (l : List ℕ) (at e : ℕ) (h : e ≡ at + stop 32 (drop at l)) where
   pub num_end : length l ≤ e → none ≡ num_then form (pieces 32 (drop at l))
   unfolding num_then
   num_end k = rw (cut-end 32 l at e h k)
 
-  pub num_value : (v : ℕ) → e < length l → form (take (e - at) (drop at l)) ≡ Value v
+  pub num_value : (v : ℕ) → e < length l → form (take (e - at) (drop at l)) ≡ Some v
       → some v (pieces 32 (drop (e + 1) l)) ≡ num_then form (pieces 32 (drop at l))
   unfolding num_then
   num_value v k q = rw (cut-more 32 l at e h k, q)
@@ -42,7 +37,7 @@ word_one_field f w h =
     let b : pieces 32 (write_word w) ≡ final (write_word w) = pieces-last 32 (word-clear 32 w (lit< tt) a.1) in
     rw (← a.0) at b
 
-number_one_field : (f : List ℕ) (n : ℕ) → number f ≡ Value n → pieces 32 f ≡ final f
+number_one_field : (f : List ℕ) (n : ℕ) → number f ≡ Some n → pieces 32 f ≡ final f
 number_one_field f n h =
     let a = number_is_written f n h in
     let b : pieces 32 (write_number n) ≡ final (write_number n) = pieces-last 32 (number-clear 32 n (lit< tt)) in
@@ -67,10 +62,10 @@ pub number_of_last : (f : List ℕ) → number f ≡ num_last (pieces 32 f)
 unfolding num_last
 number_of_last f = go (number f) (pieces 32 f) refl refl
   where
-    go : (n : Num) (ps : Pieces) → number f ≡ n → pieces 32 f ≡ ps → n ≡ num_last ps
+    go : (n : Option ℕ) (ps : Pieces) → number f ≡ n → pieces 32 f ≡ ps → n ≡ num_last ps
     go n (final g) a b = sym a ∙ ap number (final-all f g b)
-    go Num.Misshapen (piece g ps) a b = refl
-    go (Value v) (piece g ps) a b = absurd (let q = number_one_field f v a in let y : ◌≡◌ {A = ℕ} 0 1 = cc in omega arith)
+    go None (piece g ps) a b = refl
+    go (Some v) (piece g ps) a b = absurd (let q = number_one_field f v a in let y : ◌≡◌ {A = ℕ} 0 1 = cc in omega arith)
 
 -- A word with another piece behind it: pieces are ended by the byte b.
 module _ (b : ℕ) (l : List ℕ) (at e : ℕ) (h : e ≡ at + stop b (drop at l)) where
@@ -83,46 +78,46 @@ module _ (b : ℕ) (l : List ℕ) (at e : ℕ) (h : e ≡ at + stop b (drop at l
   unfolding word_then got_word_of
   word_some w k q = rw (cut-more b l at e h k, q)
 
-module _ (l : List ℕ) (at : ℕ) (r : WordAt) (x : GotWord) where
-  pub seen-none-word : r ≡ WordAt.Misshapen → seen_word_at l at r ≡ x → x ≡ none_word
+module _ (l : List ℕ) (at : ℕ) (r : Option WordAt) (x : GotWord) where
+  pub seen-none-word : r ≡ None → seen_word_at l at r ≡ x → x ≡ none_word
   unfolding seen_word_at
   seen-none-word q h = sym h ∙ rw q
 
-  pub seen-some-word : (n e : ℕ) → r ≡ Spans n e → seen_word_at l at r ≡ x → x ≡ some_word (part l at n) (pieces 32 (drop e l))
+  pub seen-some-word : (w : WordAt) → r ≡ Some w → seen_word_at l at r ≡ x → x ≡ some_word (part l at w.len) (pieces 32 (drop w.next l))
   unfolding seen_word_at
-  seen-some-word n e q h = sym h ∙ rw q
+  seen-some-word w q h = sym h ∙ rw q
 
-pub next-word-le : (r : WordAt) (n e m : ℕ) → r ≡ Spans n e → next_word r ≤ m → e ≤ m
+pub next-word-le : (r : Option WordAt) (w : WordAt) (m : ℕ) → r ≡ Some w → next_word r ≤ m → w.next ≤ m
 unfolding next_word
-next-word-le r n e m q h = rw q at h
+next-word-le r w m q h = rw q at h
 
-pub span_le : (r : WordAt) (at n e m : ℕ) → r ≡ Spans n e → at + span_word r ≤ m → at + n ≤ m
+pub span_le : (r : Option WordAt) (at : ℕ) (w : WordAt) (m : ℕ) → r ≡ Some w → at + span_word r ≤ m → at + w.len ≤ m
 unfolding span_word
-span_le r at n e m q h = rw q at h
+span_le r at w m q h = rw q at h
 
 -- What an answer says of what was read.
-module _ (l : List ℕ) (r : NumAt) (x : Got) where
-  pub seen_none : r ≡ NumAt.Misshapen → seen_num l r ≡ x → x ≡ none
+module _ (l : List ℕ) (r : Option NumberAt) (x : Got) where
+  pub seen_none : r ≡ None → seen_num l r ≡ x → x ≡ none
   unfolding seen_num
   seen_none q h = sym h ∙ rw q
 
-  pub seen-some : (v e : ℕ) → r ≡ Read v e → seen_num l r ≡ x → x ≡ some v (pieces 32 (drop e l))
+  pub seen-some : (n : NumberAt) → r ≡ Some n → seen_num l r ≡ x → x ≡ some n.value (pieces 32 (drop n.next l))
   unfolding seen_num
-  seen-some v e q h = sym h ∙ rw q
+  seen-some n q h = sym h ∙ rw q
 
-pub next_le : (r : NumAt) (v e n : ℕ) → r ≡ Read v e → next_num r ≤ n → e ≤ n
+pub next_le : (r : Option NumberAt) (n : NumberAt) (m : ℕ) → r ≡ Some n → next_num r ≤ m → n.next ≤ m
 unfolding next_num
-next_le r v e n q h = rw q at h
+next_le r n m q h = rw q at h
 
-module _ (f : List ℕ) (r : WordLen) (x : WordField) where
-  pub seen_no_word : r ≡ WordLen.Misshapen → seen_word f r ≡ x → x ≡ no_word
+module _ (f : List ℕ) (r : Option ℕ) (x : WordField) where
+  pub seen_no_word : r ≡ None → seen_word f r ≡ x → x ≡ no_word
   unfolding seen_word
   seen_no_word q h = sym h ∙ rw q
 
-  pub seen-word : (n : ℕ) → r ≡ Letters n → seen_word f r ≡ x → x ≡ word (take n f)
+  pub seen-word : (n : ℕ) → r ≡ Some n → seen_word f r ≡ x → x ≡ word (take n f)
   unfolding seen_word
   seen-word n q h = sym h ∙ rw q
 
-pub len_le : (r : WordLen) (k n m : ℕ) → r ≡ Letters n → k + len_word r ≤ m → k + n ≤ m
+pub len_le : (r : Option ℕ) (k n m : ℕ) → r ≡ Some n → k + len_word r ≤ m → k + n ≤ m
 unfolding len_word
 len_le r k n m q h = rw q at h

@@ -15,8 +15,7 @@ use borrow.Author.Tests.{eq-eqb, ne_eqb}
 use Rattle.text.proofs.Cutting.{stop_here, stop-later, stop-end, stop_le, pieces-cut, pieces_end}
 use Rattle.text.specs.Field.{none, some, got_of, num_then}
 use Rattle.text.specs.Pieces.{pieces, stop}
-use Rattle.text.specs.declared.Num.{Num}
-use Rattle.text.specs.declared.Num.TheVariants.{Misshapen, Value}
+use Rattle.std.specs.Prelude.{Option, Some, None}
 use Rattle.fieldreading.proofs.FieldReading.{num_end, num_value}
 
 -- The bytes before the first byte b.
@@ -60,7 +59,7 @@ pub space_inside : (l : List ℕ) (i : ℕ) → get_or l i 0 ≡ 32 → i < leng
 space_inside l i e = byte_inside 32 l i (omega arith) e
 
 -- A first field that says no number.
-pub num_none : (form : List ℕ → Num) (s : List ℕ) → form (front 32 s) ≡ Misshapen → none ≡ num_then form (pieces 32 s)
+pub num_none : (form : List ℕ → Option ℕ) (s : List ℕ) → form (front 32 s) ≡ None → none ≡ num_then form (pieces 32 s)
 unfolding num_then got_of
 num_none form s w = elim (dec_lt (stop 32 s) (length s)) [ yes k ↦ rw (pieces-cut 32 s k, w) | no k ↦ rw (pieces_end 32 s (omega arith)) ]
 
@@ -83,18 +82,18 @@ module _ (b : ℕ) (pos : 0 < b) (l : List ℕ) (at : ℕ) (k : at < length l) (
   ]
 
 -- What a field that starts with a byte that is no space says as a number.
-module _ (l : List ℕ) (at : ℕ) (k : at < length l) (n : get_or l at 0 ≡ 32 → ⊥) (form : List ℕ → Num) where
-  pub num_one : (v : ℕ) → get_or l (at + 1) 0 ≡ 32 → form (get_or l at 0 ∷ []) ≡ Value v
+module _ (l : List ℕ) (at : ℕ) (k : at < length l) (n : get_or l at 0 ≡ 32 → ⊥) (form : List ℕ → Option ℕ) where
+  pub num_one : (v : ℕ) → get_or l (at + 1) 0 ≡ 32 → form (get_or l at 0 ∷ []) ≡ Some v
       → some v (pieces 32 (drop (at + 2) l)) ≡ num_then form (pieces 32 (drop at l))
   num_one v e w =
       let m : at + 1 - at ≡ stop 32 (drop at l) = omega (arith, stop_one 32 (omega arith) l at k n e) in
       let d : at + 1 + 1 ≡ at + 2 = omega arith in
       rw d at (num_value form l at (at + 1) (stop_one 32 (omega arith) l at k n e) v (space_inside l (at + 1) e) (rw (m, front_one 32 (omega arith) l at k n e) w))
 
-  pub num_one_wrong : get_or l (at + 1) 0 ≡ 32 → form (get_or l at 0 ∷ []) ≡ Misshapen → none ≡ num_then form (pieces 32 (drop at l))
+  pub num_one_wrong : get_or l (at + 1) 0 ≡ 32 → form (get_or l at 0 ∷ []) ≡ None → none ≡ num_then form (pieces 32 (drop at l))
   num_one_wrong e w = num_none form (drop at l) (rw (front_one 32 (omega arith) l at k n e) w)
 
-  pub num_more : (get_or l (at + 1) 0 ≡ 32 → ⊥) → ((f : List ℕ) → 2 ≤ length f → get_or f 0 0 ≡ get_or l at 0 → form f ≡ Misshapen)
+  pub num_more : (get_or l (at + 1) 0 ≡ 32 → ⊥) → ((f : List ℕ) → 2 ≤ length f → get_or f 0 0 ≡ get_or l at 0 → form f ≡ None)
       → none ≡ num_then form (pieces 32 (drop at l))
   num_more e w =
       ⊎_elim (λ a. num_end form l at (at + 1) a.1 a.0) (λ a. num_none form (drop at l) (w (front 32 (drop at l)) a.0 a.1)) (front-more 32 (omega arith) l at k n e)

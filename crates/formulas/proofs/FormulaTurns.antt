@@ -86,6 +86,6 @@ module _ (p letters : ℕ) (lim : Limits) (s : List ℕ) (e : ℕ) (q : e ≡ 0 
     unfolding read_formula formula_lines
     formula_unnamed m = rw (read_formula, cut-more 10 s 0 e q z, formula_lines, m)
 
-    pub formula-rows : same (part s 0 (e - 0)) formula_names ≡ true → rows p letters lim [] [] 2 (lines (drop (e + 1) s)) ≡ read_formula p letters lim s
+    pub formula_rows : same (part s 0 (e - 0)) formula_names ≡ true → rows p letters lim [] [] 2 (lines (drop (e + 1) s)) ≡ read_formula p letters lim s
     unfolding read_formula formula_lines
-    formula-rows m = rw (read_formula, cut-more 10 s 0 e q z, formula_lines, m)
+    formula_rows m = rw (read_formula, cut-more 10 s 0 e q z, formula_lines, m)

@@ -2,13 +2,10 @@
 use mathlib.Core.Path.{◌≡◌, refl, sym, ap, ◌∙◌}
 use mathlib.Core.List.{List, [], ◌∷◌, ◌++◌, append_assoc, append-nil}
 use Prim.Native.Nat.{ℕ, ◌+◌, ◌≤◌, ◌<◌}
-use native.Mathlib.Omega.{arith}
-use lib.ListN.{length}
 use Rattle.words.specs.Word.{Word, around}
 use Rattle.algebra.specs.Poly.{Term, Poly}
 use Rattle.working.specs.Working.{terms}
-use Rattle.working.specs.Change.{single, before}
-use Rattle.working.proofs.Terms.{terms-end}
+use Rattle.working.specs.Change.{single}
 use Rattle.table.specs.Polynomials.{word_in}
 use Rattle.table.specs.Table.{field_in, terms_in, coef_in}
 use Rattle.itemadding.proofs.Sums.{rest, rest-next, rest_end}
@@ -19,21 +16,20 @@ module _ (t : List ℕ) (x : ℕ) (left right : Word) (end : ℕ) where
   placed-none G i = refl
 
   -- one term more
-  pub placed-next : (G : ℕ → Term) (f whole : Poly) (i k y : ℕ) (v : Word) → i < end → terms G 0 k ++ rest t x left right end i ≡ whole
-      → y ≡ (field_in t).mul x (coef_in t i) → v ≡ around left right (word_in t i) → f ≡ before G k k y v → f ++ rest t x left right end (i + 1) ≡ whole
-  placed-next G f whole i k y v h held q e d =
-      ap (λ (g : Poly). g ++ rest t x left right end (i + 1)) (d ∙ ap (λ (g : Poly). terms G 0 k ++ (single y v ∷ g)) (terms-end G k k (omega arith)))
-      ∙ append_assoc (terms G 0 k) (single y v ∷ []) (rest t x left right end (i + 1))
-      ∙ ap (λ (g : Poly). terms G 0 k ++ g) (sym (rest-next t x left right end i y v h q e))
+  pub placed-next : (g f whole : Poly) (i y : ℕ) (v : Word) → i < end → g ++ rest t x left right end i ≡ whole → y ≡ (field_in t).mul x (coef_in t i)
+      → v ≡ around left right (word_in t i) → f ≡ g ++ (single y v ∷ []) → f ++ rest t x left right end (i + 1) ≡ whole
+  placed-next g f whole i y v h held q e d =
+      ap (λ (p : Poly). p ++ rest t x left right end (i + 1)) d
+      ∙ append_assoc g (single y v ∷ []) (rest t x left right end (i + 1))
+      ∙ ap (λ (p : Poly). g ++ p) (sym (rest-next t x left right end i y v h q e))
       ∙ held
 
   pub placed_end : (f whole : Poly) (i : ℕ) → end ≤ i → f ++ rest t x left right end i ≡ whole → f ≡ whole
   placed_end f whole i h held = sym (ap (λ (g : Poly). f ++ g) (rest_end t x left right end i h) ∙ append-nil f) ∙ held
 
 -- what holds of the numbers at the top of a turn
-pub record Placing (t : List ℕ) (first end i k : ℕ) (b : List ℕ) : Type 0 where
+pub record Placing (t : List ℕ) (first end i k : ℕ) : Type 0 where
   pub most : end ≤ terms_in t
   pub few : end ≤ first + 48
   pub low : i ≤ end
   pub count : k + first ≡ i
-  pub nine : length b ≡ 9

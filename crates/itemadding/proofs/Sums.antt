@@ -3,7 +3,7 @@ use mathlib.Core.Path.{◌≡◌, refl, sym, ap, ap₂, ◌∙◌}
 use mathlib.Core.List.{List, [], ◌∷◌}
 use Prim.Native.Nat.{ℕ, zero, suc, ◌+◌, ◌-◌, ◌≤◌, ◌<◌}
 use native.Mathlib.Omega.{arith}
-use lib.ListN.{length, drop}
+use lib.ListN.{drop}
 use Rattle.words.specs.Word.{Word, around}
 use Rattle.words.specs.Order.{Order}
 use Rattle.field.specs.Field.{Operations, Field, field_of}
@@ -142,8 +142,7 @@ replaced_working t tabled c l w o n k held h c' l' w' o' r s f d = record {
 }
 
 -- what holds of the numbers at the top of a turn: the item's terms start at first, and the first `skip` of them are left out
-pub record Going (first skip n i k : ℕ) (b : List ℕ) : Type 0 where
+pub record Going (first skip n i k : ℕ) : Type 0 where
   pub from : first ≤ i
   pub low : i ≤ first + 48
   pub less : k + (first + skip) ≤ n + i
-  pub nine : length b ≡ 9

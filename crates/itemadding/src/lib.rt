@@ -1,6 +1,5 @@
 // Multiples of a table's polynomials, coefficient × left × polynomial × right, taken away from the working formula with packed words, or placed as
-// the whole of it. Left and right are words in six blocks each, with their sizes; the product with a term's word is made in a room of nine blocks,
-// which is lent.
+// the whole of it. Left and right are words in six blocks each; the product with a term's word is made in a word of nine blocks, which is lent.
 #![tactic(auto)]
 
 pub mod building;

@@ -19,16 +19,17 @@ use Rattle.working.proofs.Families.{family-written}
 use Rattle.package.specs.Names.{sum_b}
 use Rattle.package.specs.Sums.{ofs}
 use Rattle.acceptance.specs.Check.{Side}
-use Rattle.sumlines.specs.declared.SumAt.{SumAt}
+use Rattle.package.specs.declared.SumAt.{SumAt}
 use Rattle.sumlines.specs.Lines.{taken_line}
 use Rattle.table.specs.Table.{gens_in, basis_count_in, items_in, field_in, order_in}
 use Rattle.table.specs.Polynomials.{polynomial_in, relations_in, basis_in}
 use Rattle.table.specs.Tabled.{Tabled}
-use Rattle.table.specs.Words.{line_of}
 use Rattle.table.proofs.Families.{polynomials-count, family-relations, family-basis}
-use Rattle.packedterms.specs.Formula.{formula, Holds, Working}
-use Rattle.tablesums.specs.declared.Sizes.{Sizes}
-use Rattle.tablesums.specs.ShortWords.{ShortWord}
+use Rattle.packedterms.specs.declared.PackedWord.{PackedWord}
+use Rattle.packedterms.specs.declared.WorkingFormula.{WorkingFormula}
+use Rattle.packedterms.specs.InFormula.{formula_in, HoldsIn, WorkingIn}
+use Rattle.tablesums.specs.Lines.{line_in}
+use Rattle.tablesums.specs.ShortWords.{HoldsShort}
 use Rattle.tablesums.proofs.TakenLines.{without, without-basis, without_relation, line-packed}
 use Rattle.tablesums.specs.Heading.{head_in}
 use Rattle.kindsums.specs.declared.KindNumbers.{KindNumbers}
@@ -44,8 +45,8 @@ pub record KindItems (t : List ℕ) (side : Side) (most : ℕ) (k : KindNumbers)
   pub target_in : (item : ℕ) → item ≤ k.count → k.targets + item ≤ items_in t
   pub other_in : (of : ℕ) → of ≤ most → k.others + of ≤ items_in t
   pub written : All (Written (field_in t) (order_in t)) side.targets
-  pub taken : (f : Poly) (x : ℕ) (z : Sizes) (left right : List ℕ) (of : ℕ) → 1 ≤ of → of ≤ most
-      → without t f x z left right (k.others + of) ≡ take_away (field_in t) (order_in t) (family side.others) f (line_of t x z.left left of z.right right)
+  pub taken : (f : Poly) (x : ℕ) (left right : PackedWord 6) (of : ℕ) → 1 ≤ of → of ≤ most
+      → without t f x left right (k.others + of) ≡ take_away (field_in t) (order_in t) (family side.others) f (line_in t x left of right)
 
 module _ (t : List ℕ) (T : Tabled t) where
   by_basis : (item : ℕ) → 1 ≤ item → item ≤ basis_count_in t → family (basis_in t) item ≡ polynomial_in t (gens_in t + item)
@@ -73,7 +74,7 @@ module _ (t : List ℕ) (T : Tabled t) where
             target_in = λ item l. omega arith;
             other_in = λ of l. omega arith;
             written = T.basis-written;
-            taken = λ f x z left right of some most. ap (without t f x z left right) (omega arith) ∙ without_relation t f x z left right of some most;
+            taken = λ f x left right of some most. ap (without t f x left right) (omega arith) ∙ without_relation t f x left right of some most;
           })
       go false e =
           let few = T.gens in
@@ -87,7 +88,7 @@ module _ (t : List ℕ) (T : Tabled t) where
             target_in = λ item l. omega arith;
             other_in = λ of l. omega arith;
             written = T.relations-written;
-            taken = λ f x z left right of some most. without-basis t f x z left right of some most;
+            taken = λ f x left right of some most. without-basis t f x left right of some most;
           })
 
 module _ {t : List ℕ} {side : Side} {most : ℕ} {k : KindNumbers} (i : KindItems t side most k) where
@@ -99,16 +100,15 @@ module _ {t : List ℕ} {side : Side} {most : ℕ} {k : KindNumbers} (i : KindIt
       ∙ ap (scale (field_in t) 1) (shift-nil (polynomial_in t (k.targets + item)) ∙ sym (i.target item some last))
       ∙ scale_one T.field T.suits.admissible (family-written (field_in t) (order_in t) side.targets i.written item)
 
-  -- It is in written form, so that arrays which hold it can be added to.
-  pub target-working : (item : ℕ) {c l w o : List ℕ} {n : ℕ} → Holds t c l w o n → formula t c l w o n ≡ family side.targets item
-      → Working t c l w o n
-  target-working item held e = record { holds = held; written = rw e (family-written (field_in t) (order_in t) side.targets i.written item) }
+  -- It is in written form, so that a formula which holds it can be added to.
+  pub target-working : (item : ℕ) (f : WorkingFormula) → HoldsIn t f → formula_in t f ≡ family side.targets item → WorkingIn t f
+  target-working item f held e = record { holds = held; written = rw e (family-written (field_in t) (order_in t) side.targets i.written item) }
 
   -- What `take_item` leaves, with the words that `pack_sides` packed, is the line in the bytes taken away.
-  pub line_taken : (bytes : List ℕ) (s : SumAt) (z : Sizes) (left right : List ℕ)
-      → ShortWord t (part bytes s.left s.leftlen) z.left left → ShortWord t (part bytes s.right s.rightlen) z.right right
-      → 1 ≤ s.of → s.of ≤ most → (f f' : Poly) → f' ≡ without t f s.coef z left right (k.others + s.of)
+  pub line_taken : (bytes : List ℕ) (s : SumAt) (left right : PackedWord 6)
+      → HoldsShort t (part bytes s.left s.left_len) left → HoldsShort t (part bytes s.right s.right_len) right
+      → 1 ≤ s.of → s.of ≤ most → (f f' : Poly) → f' ≡ without t f s.coef left right (k.others + s.of)
       → f' ≡ take_away (field_in t) (order_in t) (family side.others) f (taken_line bytes s)
-  line_taken bytes s z left right l r some last f f' e =
-      e ∙ i.taken f s.coef z left right s.of some last
-      ∙ ap (take_away (field_in t) (order_in t) (family side.others) f) (line-packed t bytes s z left right l r)
+  line_taken bytes s left right l r some last f f' e =
+      e ∙ i.taken f s.coef left right s.of some last
+      ∙ ap (take_away (field_in t) (order_in t) (family side.others) f) (line-packed t bytes s left right l r)

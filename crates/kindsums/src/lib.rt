@@ -1,15 +1,15 @@
-// The sums of a kind on a package's table (refusals 10, 11 and 12): a labelled loop over the items of a kind and their lines, left from inside
+// The sums of a kind on a package's table (refusals 10, 11 and 12): a loop over the items of a kind and one over an item's lines, left from inside
 // with number and place.
 #![tactic(auto)]
 
 pub mod judging;
 pub mod numbers;
 
-// What sums are judged: refused with number and place, or passed, with the place and the number of the line behind them.
+// The place and the number of the line behind sums that passed.
 #[derive(Clone, Copy)]
-pub enum SumsAnswer {
-    Refused { number: u32, place: usize },
-    Passed { at: usize, line: usize },
+pub struct Behind {
+    pub at: usize,
+    pub line: usize,
 }
 
 // The numbers of a kind of sums: the number that a wrong sum gives, how many targets there are, the item before the first target, and the item before

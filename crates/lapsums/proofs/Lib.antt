@@ -1,5 +1,3 @@
 -- What other crates cite: the answer of a verdict.
 pub mod Answers
-mod ShortHeads
-mod CountedHeads
 mod OverlapsJudging

@@ -1,12 +1,13 @@
--- The overlap word of a pair in blocks.
+-- The overlap word of a pair, packed.
 use Rattle.std.specs.Prelude.{◌≡◌, List, ℕ}
 use Rattle.algebra.specs.Ideal.{family}
 use Rattle.overlaps.specs.Pairs.{Pair}
 use Rattle.overlaps.specs.Overlaps.{overlap_word}
 use Rattle.table.specs.Polynomials.{basis_in}
-use Rattle.table.specs.Words.{word_of, Built}
+use Rattle.packedterms.specs.declared.PackedWord.{PackedWord}
+use Rattle.packedterms.specs.InFormula.{letters_in, BuiltIn}
 
--- The blocks bs hold a word of size z, which is the overlap word of a pair of the table's basis.
-pub record LapWord (t : List ℕ) (o : Pair) (z : ℕ) (bs : List ℕ) : Type 0 where
-  pub built : Built t z bs
-  pub word : word_of t z bs ≡ overlap_word (family (basis_in t)) o
+-- The packed word w is the overlap word of a pair of the table's basis.
+pub record LapWord (t : List ℕ) (o : Pair) (w : PackedWord 9) : Type 0 where
+  pub built : BuiltIn t w
+  pub word : letters_in t w ≡ overlap_word (family (basis_in t)) o

@@ -2,114 +2,105 @@
 
 ghost use Rattle.std.specs.Prelude.{◌≡◌, length};
 ghost use Rattle.algebra.specs.Ideal.{family};
-ghost use Rattle.working.specs.Working.{Arranged};
 ghost use Rattle.package.specs.Names.{sum_o};
 ghost use Rattle.overlaps.specs.Overlaps.{leads, overlaps};
+ghost use Rattle.working.specs.Working.{Arranged};
 ghost use Rattle.acceptance.specs.Check.{overlaps_judged};
+ghost use Rattle.basis.specs.Answer.{verdict_of};
 ghost use Rattle.sumlines.specs.Lines.{sums_at};
 ghost use Rattle.sumorder.specs.Reached.{Reached};
 ghost use Rattle.table.specs.Polynomials.{basis_in};
 ghost use Rattle.table.specs.Table.{field_in, order_in};
 ghost use Rattle.table.specs.Tabled.{Tabled};
-ghost use Rattle.packedterms.specs.Formula.{Room};
-ghost use Rattle.tablesums.specs.Leading.{HeadsIn};
+ghost use Rattle.tablesums.specs.Leading.{LeadsIn};
 ghost use Rattle.tablesums.specs.Heading.{head_in};
-ghost use Rattle.lapsums.specs.Judged.{laps_verdict_of, LapsBehind};
+ghost use Rattle.lapsums.specs.Judged.{LapsBehind};
 
-use crate::LapsAnswer;
+use crate::PairsPassed;
 use crate::beginning::start_lap;
 use itemadding::taking::take_item;
+use overlapsearch::leading::LeadingWords;
 use overlapsearch::walking::{first_pair, pair_behind};
-use package::SUM_O;
-use sumlines::sum_line::{is_item, line_at};
+use package::{Refusal, SUM_O};
+use packedterms::{PackedWord, WorkingFormula};
+use sumlines::sum_line::{item_line, line_at};
 use table::Table;
-use table::numbers::{basis_in, gens_in};
+use table::numbers::gens_in;
 use tablesums::lines::pack_sides;
 use tablesums::under::is_under;
 
-// The sums of all pairs of the basis, whose leading words lie in the bytes: their lines stand from the place from on, where the line has the
-// number first. The pairs are counted on the way; where no line is left over behind the last, each line belonged to one of them. The overlap
-// word of a pair is wanted for 14, so where it has a line.
-// c, l, w and o are scratch, and have their room afterwards.
+// The sums of all pairs of the basis, whose leading words are those given: the lines stand in the bytes from the place from on, where the line has the
+// number first. The pairs are counted on the way; where no line is left over behind the last, each line belonged to one of them. The overlap word of a
+// pair is wanted for 14, so where it has a line. The formula is scratch.
 pub fn judge_overlaps(
     t: &Table,
-    heads: &[usize],
-    headlens: &[usize],
-    bytes: &[u8],
+    words: &LeadingWords,
     from: usize,
     first: usize,
-    c: &mut [u32; 560],
-    l: &mut [u32; 560],
-    w: &mut [u64; 3360],
-    o: &mut [u16; 560],
-) -> LapsAnswer
-    requires tabled { Tabled t.now × HeadsIn t.now heads.now headlens.now bytes.now }
-    requires reached { Reached (head_in t.now) sum_o 1 bytes.now from first }
-    requires arranged { Arranged o.old × Room c.old l.old w.old o.old }
-    ensures result_value { laps_verdict_of result
+    f: &mut WorkingFormula,
+) -> Result<PairsPassed, Refusal>
+    requires tabled { Tabled t.now × LeadsIn t.now words.now }
+    requires reached { Reached (head_in t.now) sum_o 1 words.now.bytes.now from first }
+    requires arranged { Arranged f.old.places }
+    ensures result_value { verdict_of result
         ≡ overlaps_judged (field_in t.now) (order_in t.now) (family (basis_in t.now))
-        (sums_at bytes.now from first) (overlaps (leads (basis_in t.now))) 1 }
-    ensures laps_behind { LapsBehind (length (overlaps (leads (basis_in t.now)))) (sums_at bytes.now from first) result }
-    ensures room { Room c.new l.new w.new o.new }
+        (sums_at words.now.bytes.now from first) (overlaps (leads (basis_in t.now))) 1 }
+    ensures laps_behind { LapsBehind (length (overlaps (leads (basis_in t.now)))) (sums_at words.now.bytes.now from first) result }
 {
-    let count = basis_in(t);
     let base = gens_in(t);
-    let mut left = [0u64; 6];
-    let mut right = [0u64; 6];
-    let mut lap = [0u64; 9];
-    let mut buf = [0u64; 9];
+    let mut left = PackedWord::<6>::EMPTY;
+    let mut right = PackedWord::<6>::EMPTY;
+    let mut lap = PackedWord {
+        blocks: [0; 9],
+        size: 0,
+    };
+    let mut product = PackedWord {
+        blocks: [0; 9],
+        size: 0,
+    };
     let mut at = from;
     let mut line = first;
-    let mut s = line_at(bytes, from);
+    let mut next = line_at(words.bytes, from);
     let mut i = 0;
-    let mut answer = LapsAnswer::Through {
-        count: 0,
-        left: s.present,
-    };
-    let mut f = first_pair(heads, headlens, bytes, count);
-    'items: while f.present {
+    let mut found = first_pair(words);
+    'items: while let Some(pair) = found {
         let item = i + 1;
-        let lined = is_item(s, SUM_O, item);
-        let x = start_lap(t, f, lined, &mut lap, c, l, w, o);
-        let mut n = x.terms;
-        while is_item(s, SUM_O, item) {
-            let z = pack_sides(t, bytes, s, &mut left, &mut right);
-            if !is_under(t, s.of, z, &left, &right, &lap, x.size, &mut buf) {
-                answer = LapsAnswer::Stopped {
+        let lined = item_line(next, SUM_O, item).is_some();
+        start_lap(t, pair, lined, &mut lap, f);
+        while let Some(s) = item_line(next, SUM_O, item) {
+            pack_sides(t, words.bytes, s, &mut left, &mut right);
+            let under = is_under(t, s.of as usize, &left, &right, &lap, &mut product);
+            let fails = !under;
+            if fails {
+                return Err(Refusal {
                     number: 14,
                     place: line,
-                };
-                break 'items;
+                });
             }
-            let y = s.coef;
-            let j = base + s.of;
-            let a = z.left;
-            let b = z.right;
-            n = take_item(t, y, &left, a, j, 0, &right, b, c, l, w, o, n, 0, &mut buf);
-            if 512 < n {
-                answer = LapsAnswer::Stopped {
+            let j = base + s.of as usize;
+            take_item(t, s.coef, &left, j, 0, &right, f, 0, &mut product);
+            let over = 512 < f.terms;
+            if over {
+                return Err(Refusal {
                     number: 10,
                     place: line,
-                };
-                break 'items;
+                });
             }
             at = s.next;
             line += 1;
-            s = line_at(bytes, at);
+            next = line_at(words.bytes, at);
         }
-        if 0 < n {
-            answer = LapsAnswer::Stopped {
+        if 0 < f.terms {
+            return Err(Refusal {
                 number: 13,
                 place: item,
-            };
-            break 'items;
+            });
         }
         i = item;
-        answer = LapsAnswer::Through {
-            count: item,
-            left: s.present,
-        };
-        f = pair_behind(heads, headlens, bytes, count, f);
+        found = pair_behind(words, pair);
     }
-    answer
+    Ok(PairsPassed {
+        count: i,
+        left: next.is_some(),
+    })
 }

@@ -1,12 +1,14 @@
 -- Laws of the pairs that a word may open: of a word of no letters all, of one letter all with it, of more letters one.
-use mathlib.Core.Path.{◌≡◌, sym, ◌∙◌}
-use mathlib.Core.List.{List}
-use Prim.Native.Nat.{ℕ, ◌+◌, ◌^◌, ◌≤◌, ◌<◌}
+use mathlib.Core.Path.{◌≡◌, sym, ap, ◌∙◌}
+use mathlib.Core.List.{List, ◌++◌}
+use Prim.Native.Nat.{ℕ, ◌+◌, ◌-◌, ◌^◌, ◌≤◌, ◌<◌}
 use native.Mathlib.Decide.{ℕ_discrete}
 use native.Mathlib.Omega.{arith}
-use lib.ListN.{length, get_or, set, length-set}
+use lib.ListN.{length, get_or, set, take, drop, length-set, length-drop}
 use lib.Seq.{get_or-set_same, get_or-set_other}
 use lib.Bits.{bit_or}
+use borrow.Rule.Slice.PartMut.{put_mid, mid_of, post_of, same_len_mid}
+use Rattle.std.proofs.lemmas.List.{get_or_append_left, get_or-append_right, get_or-take, length-take-le}
 use Rattle.words.specs.Word.{Word}
 use Rattle.packedwords.specs.Packed.{letter_of, unpacked}
 use Rattle.packedwords.proofs.Packing.{unpacked-length, unpacked_at}
@@ -19,30 +21,31 @@ use Rattle.leads.proofs.OneMark.{at_other, mark-new, mark-kept}
 full : (d m : ℕ) → d < 32 → m ≡ 4294967295 → bit m d ≡ 1
 full d m h e = rw e (bit-all 32 d h)
 
--- From t to u the pairs whose first code is below c are marked, and nothing else changed.
-pub record AllBelow (t : List ℕ) (c : ℕ) (u : List ℕ) : Type 0 where
-  pub room : length u ≡ length t
-  pub marked : (j : ℕ) → j < c → get_or u (800 + j) 0 ≡ 4294967295
-  pub same : (i : ℕ) → i < 800 → get_or u i 0 ≡ get_or t i 0
-
-pub below_next : {t u : List ℕ} (c : ℕ) → length t ≡ index_size → c < 32 → AllBelow t c u → AllBelow t (c + 1) (set u (800 + c) 4294967295)
-below_next {t} {u} c r h s = record {
-  room = length-set u (800 + c) 4294967295 ∙ s.room;
-  marked = λ j l. marked j l (ℕ_discrete j c);
-  same = λ i l. get_or-set_other u (800 + c) i 4294967295 0 (λ e. omega arith) ∙ s.same i l;
+-- 32 full masks behind the first 800 mark all pairs
+pub pairs_all : (t s : List ℕ) → length t ≡ index_size → length s ≡ length (mid_of 800 32 t) → ((k : ℕ) → k < length (mid_of 800 32 t) → get_or s k 0 ≡ 4294967295)
+    → (b : Word) → PairsDone b t (put_mid 800 32 t s)
+pairs_all t s r l f b = record {
+  room = same_len_mid 800 32 t s l;
+  rows = rows;
+  kept = λ c d h q p. full d _ q (marked c h);
+  opens = λ c d h q o. full d _ q (marked c h);
 }
   where
-    marked : (j : ℕ) → j < c + 1 → Dec (j ≡ c) → get_or (set u (800 + c) 4294967295) (800 + j) 0 ≡ 4294967295
-    marked j l (yes e) = rw e (get_or-set_same u (800 + c) 4294967295 0 (let q = s.room in omega arith))
-    marked j l (no e) = get_or-set_other u (800 + c) (800 + j) 4294967295 0 (λ f. e (omega arith)) ∙ s.marked j (omega arith)
+    front : length (take 800 t) ≡ 800
+    front = length-take-le 800 t (omega arith)
 
-pub below_all : {t u : List ℕ} → AllBelow t 32 u → (b : Word) → PairsDone b t u
-below_all s b = record {
-  room = s.room;
-  rows = s.same;
-  kept = λ c d h l p. full d _ l (s.marked c h);
-  opens = λ c d h l o. full d _ l (s.marked c h);
-}
+    size : length (mid_of 800 32 t) ≡ 32
+    size = length-take-le 32 (drop 800 t) (omega (arith, length-drop 800 t))
+
+    rows : (i : ℕ) → i < 800 → get_or (put_mid 800 32 t s) i 0 ≡ get_or t i 0
+    rows i h = get_or_append_left (take 800 t) (s ++ post_of 800 32 t) 0 i (omega (arith, front)) ∙ get_or-take 800 t i 0 h
+
+    marked : (c : ℕ) → c < 32 → get_or (put_mid 800 32 t s) (800 + c) 0 ≡ 4294967295
+    marked c h =
+        let e : 800 + c - 800 ≡ c = omega arith in
+        get_or-append_right (take 800 t) (s ++ post_of 800 32 t) 800 (800 + c) 0 front (omega arith)
+        ∙ ap (λ (i : ℕ). get_or (s ++ post_of 800 32 t) i 0) e
+        ∙ get_or_append_left s (post_of 800 32 t) 0 c (omega (arith, l, size)) ∙ f c (omega (arith, size))
 
 module _ (t bs : List ℕ) (n : ℕ) {c : ℕ} (r : length t ≡ index_size) (e : c ≡ letter_of bs 0) (low : c < 32) where
   inside : 800 + c < length t

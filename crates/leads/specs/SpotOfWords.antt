@@ -1,11 +1,10 @@
 -- The leftmost place where a word of a list stands in a word: `spot` of the algebra, with words in place of the polynomials that they lead.
-use Rattle.std.specs.Prelude.{◌≡◌, true, false, ◌↔◌, List, [], ◌∷◌, ℕ, suc, ◌<◌, length, get_or}
+use Rattle.std.specs.Prelude.{◌≡◌, true, false, ◌↔◌, List, [], ◌∷◌, ℕ, suc, ◌<◌, length, get_or, Option as Answer, Some, None}
 use Rattle.std.proofs.Math.Option.{Option, none, some}
 use Rattle.words.specs.Word.{Word}
 use Rattle.words.specs.Place.{begins}
 use Rattle.algebra.specs.Spot.{Spot, nowhere, found, spot_at}
-use Rattle.leads.specs.declared.Spotted.{Spotted}
-use Rattle.leads.specs.declared.Spotted.TheVariants.{Nowhere, Found}
+use Rattle.leads.specs.declared.Spot as answered
 use Rattle.leads.specs.Masks.{bit}
 
 -- The lowest number, counted from n, of a word of the list that w begins with.
@@ -26,9 +25,9 @@ unfolding spot_of_words_from
 spot_of_words ls w = spot_of_words_from ls w 0
 
 -- What the code answers, as a spot.
-unfoldable pub seen : Spotted → Spot
-seen Nowhere = nowhere
-seen (Found place number) = found place number
+unfoldable pub seen : Answer answered.Spot → Spot
+seen None = nowhere
+seen (Some s) = found s.place s.number
 
 -- The mask has bit g exactly where word g, from 0, is one that v begins with.
 abbrev pub BegunBy : List Word → Word → ℕ → Type 0

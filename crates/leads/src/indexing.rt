@@ -12,6 +12,9 @@ use crate::masks::mark;
 use table::Table;
 use table::numbers::{basis_in, code_in, first_in, gens_in, size_in};
 
+// The mask of 32 bits that has a bit for every code.
+const ALL_LETTERS: u64 = 4294967295;
+
 // The first n letters of term i are marked in their rows as those of word g, and its end in the row behind the last.
 fn mark_rows(t: &Table, i: usize, n: usize, g: usize, index: &mut [u64; 832])
     requires i_bound { (i < 1024) × (n ≤ 24) × (g < 64) }
@@ -19,13 +22,11 @@ fn mark_rows(t: &Table, i: usize, n: usize, g: usize, index: &mut [u64; 832])
     ensures index_len_2 { length index.new ≡ index_size }
     ensures code_rows_done { CodeRowsDone (unpacked n (blocks_in t.now i)) g index.old index.new }
 {
-    let mut k = 0;
-    while k < n {
+    for k in 0..n {
         let x = code_in(t, i, k);
         mark(index, k * 32 + x, g);
-        k += 1;
     }
-    mark(index, k * 32, g);
+    mark(index, n * 32, g);
 }
 
 // All pairs are marked: a word of no letters may begin any word.
@@ -33,11 +34,7 @@ fn mark_all_pairs(index: &mut [u64; 832])
     requires { length index.old ≡ index_size }
     ensures { (b : Word) → PairsDone b index.old index.new }
 {
-    let mut c = 0;
-    while c < 32 {
-        index[800 + c] = 4294967295;
-        c += 1;
-    }
+    index[800..].fill(ALL_LETTERS);
 }
 
 // The pairs are marked that the first n letters of term i may open.
@@ -52,7 +49,7 @@ fn mark_pairs(t: &Table, i: usize, n: usize, index: &mut [u64; 832])
     }
     let c = code_in(t, i, 0);
     if n == 1 {
-        index[800 + c] = 4294967295;
+        index[800 + c] = ALL_LETTERS;
         return;
     }
     let d = code_in(t, i, 1);
@@ -67,12 +64,10 @@ pub fn index_leads(t: &Table, index: &mut [u64; 832])
 {
     let n = basis_in(t);
     let base = gens_in(t) + 1;
-    let mut g = 0;
-    while g < n {
+    for g in 0..n {
         let i = first_in(t, base + g);
         let m = size_in(t, i) % 256;
         mark_pairs(t, i, m, index);
         mark_rows(t, i, m, g, index);
-        g += 1;
     }
 }

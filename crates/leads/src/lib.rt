@@ -10,7 +10,7 @@ pub mod spotting;
 
 // The leftmost place where a leading word stands in a word, and the number, from 1, of the first that stands there.
 #[derive(Clone, Copy)]
-pub enum Spotted {
-    Nowhere,
-    Found { place: usize, number: usize },
+pub struct Spot {
+    pub place: usize,
+    pub number: usize,
 }

@@ -26,5 +26,5 @@ pub fn lowest(m: u64) -> usize
     requires { m ≡ 0 → ⊥ }
     ensures { (result < 64) × LowestBit m result }
 {
-    u64::trailing_zeros(m) as usize
+    m.trailing_zeros() as usize
 }

@@ -1,12 +1,6 @@
 -- The bytes of an output slice that were kept.
-use Rattle.std.specs.Prelude.{true, false, List, [], ◌∷◌, ℕ, ◌+◌, eqb}
+use Rattle.std.specs.Prelude.{List, ℕ, ◌==◌, count_by}
 
--- 1 for the byte `~`, 126, with which an output slice is filled before the call; 0 for any other.
-unfoldable pub kept_byte : ℕ → ℕ
-kept_byte b = elim (eqb b 126) [ true ↦ 1 | false ↦ 0 ]
-
--- How many bytes are `~`.
-unfoldable pub count_kept_of : List ℕ → ℕ
-unfolding kept_byte
-count_kept_of [] = 0
-count_kept_of (b ∷ bs) = kept_byte b + count_kept_of bs
+-- How many bytes are `~`, 126, with which an output slice is filled before the call.
+abbrev pub count_kept_of : List ℕ → ℕ
+count_kept_of bs = count_by (λ b. b == 126) bs

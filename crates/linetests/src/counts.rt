@@ -7,67 +7,38 @@ ghost use Rattle.package.specs.Held.{seen_head};
 
 use field::prime::is_prime;
 use numberreading::number::{inner_number, last_number};
-use package::{Head, HeadRead};
+use package::Head;
 use text::bytes::is_within;
-use text::{Num, NumAt};
 
 // The value line of block 1: four numbers.
-pub fn read_head(l: &[u8]) -> HeadRead
+#[tactic(auto, unfolding(package::specs::Held::seen_head, package::specs::Head::head_form, text::specs::Answers::seen_num, text::specs::Answers::next_num))]
+pub fn read_head(l: &[u8]) -> Option<Head>
     ensures { seen_head result ≡ head_form (fields l.now) }
 {
-    let NumAt::Read { value: p, next: a } = inner_number(l, 0) else {
-        return HeadRead::Misshapen;
-    };
-    let NumAt::Read {
-        value: letters,
-        next: b,
-    } = inner_number(l, a)
-    else {
-        return HeadRead::Misshapen;
-    };
-    let NumAt::Read {
-        value: gens,
-        next: c,
-    } = inner_number(l, b)
-    else {
-        return HeadRead::Misshapen;
-    };
-    let Num::Value(basis) = last_number(l, c) else {
-        return HeadRead::Misshapen;
-    };
-    HeadRead::Counts {
-        p: p,
-        letters: letters,
-        gens: gens,
-        basis: basis,
-    }
+    let p = inner_number(l, 0)?;
+    let letters = inner_number(l, p.next)?;
+    let gens = inner_number(l, letters.next)?;
+    let basis = last_number(l, gens.next)?;
+    Some(Head {
+        p: p.value,
+        letters: letters.value,
+        gens: gens.value,
+        basis,
+    })
 }
 
 // Whether p means a field: it is 256, or a prime in bounds.
+#[tactic(auto, unfolding(package::specs::Head::field_fits))]
 pub fn field_fits(p: u32) -> bool
     ensures { result ≡ field_fits p }
 {
-    if p == 256 {
-        return true;
-    }
-    if 65521 < p {
-        return false;
-    }
-    is_prime(p)
+    p == 256 || p <= 65521 && is_prime(p)
 }
 
 // Whether the other counts are in bounds.
+#[tactic(auto, unfolding(package::specs::Head::counts_fit))]
 pub fn counts_fit(h: Head) -> bool
     ensures { result ≡ counts_fit h }
 {
-    if !is_within(1, 26, h.letters) {
-        return false;
-    }
-    if 32 < h.gens {
-        return false;
-    }
-    if 64 < h.basis {
-        return false;
-    }
-    true
+    is_within(1, 26, h.letters) && h.gens <= 32 && h.basis <= 64
 }

@@ -1,19 +1,17 @@
 // list_package: the overlaps and inclusions of a package's leading words, as the text of documents 01 and 02.
 
 ghost use Rattle.std.specs.Prelude.{◌≡◌, ◌≤◌, length};
-ghost use Rattle.words.specs.Laid.{laid_words, Laid};
-ghost use Rattle.overlapsearch.specs.Position.{AtMost24};
+ghost use Rattle.overlapsearch.specs.Leading.{words_in};
 ghost use Rattle.overlaps.specs.Listing.{overlap_text};
 ghost use Rattle.working.specs.Family.{family_at};
 ghost use Rattle.basis.specs.Lies.{BasisLies};
 ghost use Rattle.services.specs.Services.{words_listed, fitted, listed_as, listed_into};
 ghost use Rattle.listing.specs.ListingParts.{basis_listed, basis_output};
 
-use basis::BasisAnswer;
 use basis::basis::judge_basis;
 use listmeasuring::measuring::measure;
 use listwriting::listing::write_list;
-use package::Reading;
+use overlapsearch::leading::LeadingWords;
 use reading::read::read_package;
 use services::Listed;
 
@@ -28,25 +26,16 @@ fn refusal(number: u64, place: u64) -> Listed
     }
 }
 
-// The list of the pairs of n words that lie in the bytes. kept is scratch: the list's first pairs are kept there between the two walks.
-fn list_words(
-    heads: &[usize],
-    headlens: &[usize],
-    bytes: &[u8],
-    n: usize,
-    kept: &mut [u32],
-    out: &mut [u8],
-) -> Listed
-    requires laid { Laid heads.now headlens.now bytes.now n }
-    requires n_bound { (n ≤ 64) × AtMost24 headlens.now n }
-    ensures value { result ≡ words_listed (length out.old) (laid_words heads.now headlens.now bytes.now n) }
-    ensures out_after { out.new ≡ fitted (overlap_text (laid_words heads.now headlens.now bytes.now n)) out.old }
+// The list of the pairs of leading words. kept is scratch: the list's first pairs are kept there between the two walks.
+fn list_words(words: &LeadingWords, kept: &mut [u32], out: &mut [u8]) -> Listed
+    ensures value { result ≡ words_listed (length out.old) (words_in words.now) }
+    ensures out_after { out.new ≡ fitted (overlap_text (words_in words.now)) out.old }
 {
-    let m = measure(heads, headlens, bytes, n, kept);
+    let m = measure(words, kept);
     if out.len() < m.bytes {
         return refusal(19, m.bytes as u64);
     }
-    let written = write_list(heads, headlens, bytes, n, kept, m.count, out);
+    let written = write_list(words, kept, m.count, out);
     Listed {
         number: 0,
         place: 0,
@@ -74,7 +63,7 @@ fn list_basis(
 {
     let mut heads = [0usize; 64];
     let mut headlens = [0usize; 64];
-    let b = judge_basis(
+    match judge_basis(
         coefs,
         starts,
         lens,
@@ -84,11 +73,18 @@ fn list_basis(
         count,
         &mut heads,
         &mut headlens,
-    );
-    if let BasisAnswer::Unsound { number, place } = b {
-        return refusal(number as u64, place as u64);
+    ) {
+        Err(r) => refusal(u64::from(r.number), r.place as u64),
+        Ok(()) => {
+            let words = LeadingWords {
+                starts: &heads,
+                lens: &headlens,
+                bytes: bytes,
+                count: count,
+            };
+            list_words(&words, starts, out)
+        }
     }
-    list_words(&heads, &headlens, bytes, count, starts, out)
 }
 
 // Lists a package's overlaps and inclusions into the output slice. Any bytes are taken.
@@ -112,20 +108,15 @@ pub fn list_package(package: &[u8], out: &mut [u8]) -> Listed
         &mut firsts,
     );
     match r {
-        Reading::Refused(v) => refusal(v.number as u64, v.place as u64),
-        Reading::Whole {
-            head,
-            terms,
-            at,
-            line,
-        } => list_basis(
+        Err(v) => refusal(v.number as u64, v.place as u64),
+        Ok(read) => list_basis(
             &coefs,
             &mut starts,
             &lens,
             package,
             &firsts,
-            head.gens as usize + 1,
-            head.basis as usize,
+            read.head.gens as usize + 1,
+            read.head.basis as usize,
             out,
         ),
     }

@@ -1,15 +1,14 @@
 -- The first k lines of the list written: storing those that are left gives what storing all gives.
 use mathlib.Core.Path.{◌≡◌, sym, ◌∙◌, ap}
-use mathlib.Core.Bool.{true}
 use mathlib.Core.List.{List, ◌∷◌, ◌++◌}
 use Prim.Native.Nat.{ℕ, suc, ◌+◌, ◌≤◌, ◌<◌}
 use native.Mathlib.Numerals.{add-one}
 use native.Mathlib.Omega.{arith}
-use lib.ListN.{length, get_or, drop, length-append, length-drop, drop_of_length-le}
+use Rattle.std.specs.Prelude.{Some}
+use lib.ListN.{length, drop, length-append, drop_of_length-le}
 use lib.Seq.{sets, length-sets, drop-drop}
 use Rattle.words.specs.Word.{Word}
-use Rattle.words.specs.Laid.{laid_word, laid_words, WordInside, Laid}
-use Rattle.words.proofs.LaidWords.{word-inside}
+use Rattle.words.specs.Laid.{laid_word, laid_words, Laid}
 use Rattle.lists.proofs.Stores.{sets_append}
 use Rattle.overlaps.specs.Pairs.{Pair}
 use Rattle.overlaps.specs.Overlaps.{overlaps, overlap_joined}
@@ -18,7 +17,7 @@ use Rattle.overlapsearch.specs.declared.Cursor.{Cursor}
 use Rattle.overlapsearch.specs.declared.PairAt.{PairAt}
 use Rattle.overlapsearch.specs.Position.{number_of, pair_of, pairs_at, origin, behind, seen_pairs, Placed, AtMost24, FoundAt}
 use Rattle.overlapsearch.proofs.Positions.{at_origin}
-use Rattle.overlapsearch.proofs.SeenPairs.{seen_one, seen-some, place-few, placed-behind, laid-few}
+use Rattle.overlapsearch.proofs.SeenPairs.{seen_one, place-few, placed-behind, laid-few}
 use Rattle.listmeasuring.proofs.Lines.{found_word}
 
 pub record Writing (starts lens bytes : List ℕ) (n : ℕ) (out₀ : List ℕ) (at : ℕ) (out : List ℕ) (place k : ℕ) (from : Cursor) : Type 0 where
@@ -66,13 +65,7 @@ module _ (starts lens bytes : List ℕ) (n : ℕ) (out₀ : List ℕ) (at : ℕ)
     number-few l = omega (arith, laid-few starts lens bytes n h.laid h.short h.words)
 
     -- the next pair
-    module _ (l : k < length (overlaps ws)) (f : PairAt) (e : (seen_pairs ws f ≡ pairs_at ws from) × (f.present ≡ true → FoundAt lens n f)) where
-      here : f.present ≡ true
-      here = seen-some ws f (omega (arith, ap length (e.0 ∙ h.left), length-drop k (overlaps ws)))
-
-      found : FoundAt lens n f
-      found = e.1 here
-
+    module _ (f : PairAt) (e : seen_pairs ws (Some f) ≡ pairs_at ws from) (found : FoundAt lens n f) where
       abbrev line : List ℕ
       line = list_line (suc k) (pair_of f) (list_word ws (pair_of f))
 
@@ -80,7 +73,7 @@ module _ (starts lens bytes : List ℕ) (n : ℕ) (out₀ : List ℕ) (at : ℕ)
       others = overlap_lines ws (suc (suc k)) (pairs_at ws (behind f))
 
       these : pairs_at ws from ≡ pair_of f ∷ pairs_at ws (behind f)
-      these = sym e.0 ∙ seen_one ws f here
+      these = sym e ∙ seen_one ws f
 
       whole : place + length (line ++ others) ≡ at + length (all_lines ws)
       unfolding overlap_lines
@@ -97,15 +90,8 @@ module _ (starts lens bytes : List ℕ) (n : ℕ) (out₀ : List ℕ) (at : ℕ)
       fits_line = let a = whole in let b = h.fits in omega (arith, length-append line others)
 
       -- what `put_pair` asks
-      pub line_asked : (WordInside starts lens bytes f.first × WordInside starts lens bytes f.second)
-          × (((f.first < 64) × (f.second < 64) × (f.shared ≤ get_or lens f.second 0)) × (place + length laid-line ≤ length out))
-      line_asked =
-          let w = h.words in
-          let x = found.first in
-          let y = found.second in (
-            (word-inside starts lens bytes n h.laid f.first x, word-inside starts lens bytes n h.laid f.second y),
-            ((omega arith, omega arith, found.within-second), rw line_is at fits_line),
-          )
+      pub line_asked : place + length laid-line ≤ length out
+      line_asked = rw line_is at fits_line
 
       pub number_asked : number_of f ≤ 24
       number_asked = place-few lens n f found

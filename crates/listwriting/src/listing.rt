@@ -1,16 +1,17 @@
 // The list of pairs written to a slice.
 
-ghost use Rattle.std.specs.Prelude.{◌≡◌, true, [], ◌++◌, ◌+◌, ◌≤◌, ◌<◌, length, get_or, drop};
+ghost use Rattle.std.specs.Prelude.{◌≡◌, [], ◌++◌, ◌+◌, ◌≤◌, ◌<◌, Some, length, drop};
 ghost use Rattle.std.proofs.lemmas.List.Edits.{sets};
-ghost use Rattle.words.specs.Laid.{laid_word, laid_words, WordInside, Laid};
 ghost use Rattle.text.specs.Word.{write_word};
 ghost use Rattle.overlaps.specs.Overlaps.{overlaps, overlap_joined};
 ghost use Rattle.overlaps.specs.Listing.{spaced, list_line, all_lines, overlap_text};
-ghost use Rattle.overlapsearch.specs.Position.{pair_of, pairs_at, seen_pairs, Placed, AtMost24, FoundAt};
+ghost use Rattle.overlapsearch.specs.Leading.{word_in, words_in};
+ghost use Rattle.overlapsearch.specs.Position.{pair_of, pairs_at, seen_pairs, Placed, FoundAt};
 ghost use Rattle.overlapsearch.specs.Kept.{KeptPairs};
 
 use overlapsearch::finding::next_pair;
 use overlapsearch::keeping::unpack_pair;
+use overlapsearch::leading::LeadingWords;
 use overlapsearch::walking::place_behind;
 use overlapsearch::{Cursor, PairAt};
 use textwriting::write::{put_bytes, put_word};
@@ -27,6 +28,7 @@ fn put_spaced(out: &mut [u8], at: usize, n: usize) -> usize
 }
 
 // Five numbers, each with a space behind it.
+#[tactic(auto, using(crate::proofs::LineStores::five_length))]
 fn put_numbers(
     out: &mut [u8],
     place: usize,
@@ -53,7 +55,7 @@ fn put_joined(out: &mut [u8], place: usize, u: &[u8], rest: &[u8]) -> usize
     ensures value { result ≡ place + length (write_word (u.now ++ rest.now)) }
     ensures out_after { out.new ≡ sets out.old place (write_word (u.now ++ rest.now)) }
 {
-    if u.len() == 0 {
+    if u.is_empty() {
         return put_word(out, place, rest);
     }
     let e = put_bytes(out, place, u);
@@ -75,116 +77,66 @@ fn put_line(out: &mut [u8], place: usize, k: usize, f: PairAt, u: &[u8], v: &[u8
 }
 
 // The line of a pair of the leading words, number k of the list.
-fn put_pair(
-    starts: &[usize],
-    lens: &[usize],
-    bytes: &[u8],
-    f: PairAt,
-    k: usize,
-    out: &mut [u8],
-    place: usize,
-) -> usize
-    requires word_inside { WordInside starts.now lens.now bytes.now f.first × WordInside starts.now lens.now bytes.now f.second }
-    requires first_bound { (f.first < 64) × (f.second < 64) × (f.shared ≤ get_or lens.now f.second 0) }
-    requires shared_in_bounds { place
+fn put_pair(words: &LeadingWords, f: PairAt, k: usize, out: &mut [u8], place: usize) -> usize
+    requires found_at { FoundAt words.now.lens.now words.now.count f }
+    requires in_bounds { place
         + length (list_line k (pair_of f)
-        (overlap_joined (laid_word starts.now lens.now bytes.now f.first) (laid_word starts.now lens.now bytes.now f.second) f.shared))
+        (overlap_joined (word_in words.now f.first) (word_in words.now f.second) f.shared))
         ≤ length out.old }
     ensures value { result
         ≡ place
         + length (list_line k (pair_of f)
-        (overlap_joined (laid_word starts.now lens.now bytes.now f.first)
-        (laid_word starts.now lens.now bytes.now f.second) f.shared)) }
+        (overlap_joined (word_in words.now f.first) (word_in words.now f.second) f.shared)) }
     ensures out_after { out.new
         ≡ sets out.old place
         (list_line k (pair_of f)
-        (overlap_joined (laid_word starts.now lens.now bytes.now f.first)
-        (laid_word starts.now lens.now bytes.now f.second) f.shared)) }
+        (overlap_joined (word_in words.now f.first) (word_in words.now f.second) f.shared)) }
 {
-    let first = f.first;
-    let second = f.second;
-    let a = starts[first];
-    let b = starts[second];
-    let c = a + lens[first];
-    let d = b + lens[second];
-    put_line(out, place, k, f, &bytes[a..c], &bytes[b..d])
+    let u = words.letters(f.first);
+    let v = words.letters(f.second);
+    put_line(out, place, k, f, u, v)
 }
 
 // Pair k of the list, counted from 0: one that was kept, or the first from the place `from` on, behind the one before.
-fn pair_at(
-    starts: &[usize],
-    lens: &[usize],
-    bytes: &[u8],
-    n: usize,
-    kept: &[u32],
-    k: usize,
-    from: Cursor,
-) -> PairAt
-    requires laid { Laid starts.now lens.now bytes.now n }
-    requires n_bound { (n ≤ 64) × AtMost24 lens.now n × Placed n from }
-    requires kept_pairs { KeptPairs lens.now n (laid_words starts.now lens.now bytes.now n) kept.now (length (overlaps (laid_words starts.now lens.now bytes.now n))) }
-    requires k_in_bounds { (k < length (overlaps (laid_words starts.now lens.now bytes.now n))) × (pairs_at (laid_words starts.now lens.now bytes.now n) from ≡ drop k (overlaps (laid_words starts.now lens.now bytes.now n))) }
-    ensures result_value { seen_pairs (laid_words starts.now lens.now bytes.now n) result ≡ pairs_at (laid_words starts.now lens.now bytes.now n) from }
-    ensures found_at { result.present ≡ true → FoundAt lens.now n result }
+fn pair_at(words: &LeadingWords, kept: &[u32], k: usize, from: Cursor) -> PairAt
+    requires placed { Placed words.now.count from }
+    requires kept_pairs { KeptPairs words.now.lens.now words.now.count (words_in words.now) kept.now (length (overlaps (words_in words.now))) }
+    requires left { (k < length (overlaps (words_in words.now))) × (pairs_at (words_in words.now) from ≡ drop k (overlaps (words_in words.now))) }
+    ensures result_value { seen_pairs (words_in words.now) (Some result) ≡ pairs_at (words_in words.now) from }
+    ensures found_at { FoundAt words.now.lens.now words.now.count result }
 {
     if k < kept.len() {
         return unpack_pair(kept[k]);
     }
-    next_pair(starts, lens, bytes, n, from)
+    next_pair(words, from).unwrap()
 }
 
 // The count lines of the list, written to out from the place at on; kept holds the first of its pairs. The answer is the place behind them.
-fn write_lines(
-    starts: &[usize],
-    lens: &[usize],
-    bytes: &[u8],
-    n: usize,
-    kept: &[u32],
-    count: usize,
-    out: &mut [u8],
-    at: usize,
-) -> usize
-    requires laid { Laid starts.now lens.now bytes.now n }
-    requires n_bound { (n ≤ 64) × AtMost24 lens.now n × (count ≡ length (overlaps (laid_words starts.now lens.now bytes.now n))) }
-    requires kept_pairs { KeptPairs lens.now n (laid_words starts.now lens.now bytes.now n) kept.now count }
-    requires n_in_bounds { at + length (all_lines (laid_words starts.now lens.now bytes.now n)) ≤ length out.old }
-    ensures value { result ≡ at + length (all_lines (laid_words starts.now lens.now bytes.now n)) }
-    ensures out_after { out.new ≡ sets out.old at (all_lines (laid_words starts.now lens.now bytes.now n)) }
+fn write_lines(words: &LeadingWords, kept: &[u32], count: usize, out: &mut [u8], at: usize) -> usize
+    requires counted { count ≡ length (overlaps (words_in words.now)) }
+    requires kept_pairs { KeptPairs words.now.lens.now words.now.count (words_in words.now) kept.now count }
+    requires in_bounds { at + length (all_lines (words_in words.now)) ≤ length out.old }
+    ensures value { result ≡ at + length (all_lines (words_in words.now)) }
+    ensures out_after { out.new ≡ sets out.old at (all_lines (words_in words.now)) }
 {
     let mut place = at;
-    let mut k = 0;
-    let mut from = Cursor {
-        inside: false,
-        first: 0,
-        second: 0,
-        number: 1,
-    };
-    while k < count {
-        let f = pair_at(starts, lens, bytes, n, kept, k, from);
-        k += 1;
-        place = put_pair(starts, lens, bytes, f, k, out, place);
+    let mut from = Cursor::ORIGIN;
+    for k in 0..count {
+        let f = pair_at(words, kept, k, from);
+        place = put_pair(words, f, k + 1, out, place);
         from = place_behind(f);
     }
     place
 }
 
 // The list, which has count pairs, the first of which are kept, written to out from its beginning on. The answer is how many bytes it has.
-pub fn write_list(
-    starts: &[usize],
-    lens: &[usize],
-    bytes: &[u8],
-    n: usize,
-    kept: &[u32],
-    count: usize,
-    out: &mut [u8],
-) -> usize
-    requires laid { Laid starts.now lens.now bytes.now n }
-    requires n_bound { (n ≤ 64) × AtMost24 lens.now n × (count ≡ length (overlaps (laid_words starts.now lens.now bytes.now n))) }
-    requires kept_pairs { KeptPairs lens.now n (laid_words starts.now lens.now bytes.now n) kept.now count }
-    requires n_in_bounds { length (overlap_text (laid_words starts.now lens.now bytes.now n)) ≤ length out.old }
-    ensures value { result ≡ length (overlap_text (laid_words starts.now lens.now bytes.now n)) }
-    ensures out_after { out.new ≡ sets out.old 0 (overlap_text (laid_words starts.now lens.now bytes.now n)) }
+pub fn write_list(words: &LeadingWords, kept: &[u32], count: usize, out: &mut [u8]) -> usize
+    requires counted { count ≡ length (overlaps (words_in words.now)) }
+    requires kept_pairs { KeptPairs words.now.lens.now words.now.count (words_in words.now) kept.now count }
+    requires in_bounds { length (overlap_text (words_in words.now)) ≤ length out.old }
+    ensures value { result ≡ length (overlap_text (words_in words.now)) }
+    ensures out_after { out.new ≡ sets out.old 0 (overlap_text (words_in words.now)) }
 {
     let e = put_bytes(out, 0, b"item first second shared at word\n");
-    write_lines(starts, lens, bytes, n, kept, count, out, e)
+    write_lines(words, kept, count, out, e)
 }

@@ -7,108 +7,91 @@ ghost use Rattle.text.specs.Number.{digits, number};
 ghost use Rattle.text.specs.Field.{num_then, num_last};
 ghost use Rattle.text.specs.Answers.{seen_num, next_num};
 
-use fieldreading::space::is_space_at;
-use lists::bytes::wide;
-use text::{Num, NumAt};
+use fieldreading::ending::ends_at;
+use text::NumberAt;
 
-// At most five digits, leading zeros too.
-fn read_digits(f: &[u8]) -> Num
+// At most five digits, leading zeros too. The digit `0` is byte 48.
+fn read_digits(f: &[u8]) -> Option<u32>
     requires { length f.now ≤ 5 }
     ensures { result ≡ digits 0 f.now }
 {
-    let mut n: u32 = 0;
-    let mut i = 0;
-    while i < f.len() {
-        let d = wide(f[i]);
-        if d < 48 {
-            return Num::Misshapen;
+    let mut n = 0;
+    for &b in f {
+        if !b.is_ascii_digit() {
+            return None;
         }
-        if 57 < d {
-            return Num::Misshapen;
-        }
-        n = n * 10 + (d - 48);
-        i += 1;
+        n = n * 10 + (u32::from(b) - 48);
     }
-    Num::Value(n)
+    Some(n)
 }
 
 // The number that a field says.
-pub fn read_number(f: &[u8]) -> Num
+#[tactic(auto, unfolding(text::specs::Number::number))]
+pub fn read_number(f: &[u8]) -> Option<u32>
     ensures { result ≡ number f.now }
 {
-    if f.len() < 1 {
-        return Num::Misshapen;
+    if f.is_empty() || 5 < f.len() {
+        return None;
     }
-    if 5 < f.len() {
-        return Num::Misshapen;
-    }
-    if f[0] == 48 {
-        if f.len() == 1 {
-            return Num::Value(0);
-        }
-        return Num::Misshapen;
+    if f[0] == b'0' {
+        return if f.len() == 1 { Some(0) } else { None };
     }
     read_digits(f)
 }
 
 // The digits of the field that starts at the place at, another field behind it: at most five, and the first of them is not `0`.
-fn inner_digits(l: &[u8], at: usize) -> NumAt
+fn inner_digits(l: &[u8], at: usize) -> Option<NumberAt>
     requires at_in_bounds { at < length l.now }
     requires fact { get_or l.now at 0 ≡ 48 → ⊥ }
     ensures result_value { seen_num l.now result ≡ num_then number (fields (drop at l.now)) }
     ensures result_in_bounds { next_num result ≤ length l.now }
 {
-    let mut n: u32 = 0;
-    let mut i = at;
-    while i < l.len() {
-        let d = wide(l[i]);
-        if d == 32 {
+    let mut n = 0;
+    for i in at..l.len() {
+        let b = l[i];
+        if b == b' ' {
             if i == at {
-                return NumAt::Misshapen;
+                return None;
             }
-            return NumAt::Read {
+            return Some(NumberAt {
                 value: n,
                 next: i + 1,
-            };
+            });
         }
-        if d < 48 {
-            return NumAt::Misshapen;
-        }
-        if 57 < d {
-            return NumAt::Misshapen;
+        if !b.is_ascii_digit() {
+            return None;
         }
         if 5 <= i - at {
-            return NumAt::Misshapen;
+            return None;
         }
-        n = n * 10 + (d - 48);
-        i += 1;
+        n = n * 10 + (u32::from(b) - 48);
     }
-    NumAt::Misshapen
+    None
 }
 
 // The number in the field that starts at the place at, another field behind it.
-pub fn inner_number(l: &[u8], at: usize) -> NumAt
+pub fn inner_number(l: &[u8], at: usize) -> Option<NumberAt>
     requires { at ≤ length l.now }
     ensures result_value { seen_num l.now result ≡ num_then number (fields (drop at l.now)) }
     ensures result_in_bounds { next_num result ≤ length l.now }
 {
     if l.len() <= at {
-        return NumAt::Misshapen;
+        return None;
     }
-    if l[at] != 48 {
+    if l[at] != b'0' {
         return inner_digits(l, at);
     }
-    if is_space_at(l, at + 1) {
-        return NumAt::Read {
+    if ends_at(l, at + 1, b' ') {
+        return Some(NumberAt {
             value: 0,
             next: at + 2,
-        };
+        });
     }
-    NumAt::Misshapen
+    None
 }
 
 // The number in the last field, which starts at the place at: bytes with a space among them say no number.
-pub fn last_number(l: &[u8], at: usize) -> Num
+pub fn last_number(l: &[u8], at: usize) -> Option<u32>
     requires { at ≤ length l.now }
     ensures { result ≡ num_last (fields (drop at l.now)) }
 {

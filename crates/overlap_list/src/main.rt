@@ -3,31 +3,14 @@
 // contract can say.
 #![tactic(auto)]
 
-ghost use Rattle.std.specs.Prelude.{◌≡◌, ◌<◌, ◌≤◌, length, take, IfOk, OnOk, IfSome};
-ghost use Rattle.std.specs.Io.KnownBytes.{Appends, Consumes, IsAtEnd};
+ghost use Rattle.std.specs.Prelude.{take, OnOk, IfSome};
+ghost use Rattle.std.specs.Io.KnownBytes.{Appends, Consumes};
 ghost use Rattle.printing.specs.Printed.{printed_text};
 
+use inputreading::read_full;
 use printing::print_into;
 use std::io;
 use std::io::{Read, Write};
-
-// Reads until buf is full or the input ends. The answer is how many bytes were read, which are the first of buf. Behind an error, what was
-// read is left open.
-fn read_full<R: Read>(input: &mut R, buf: &mut [u8]) -> io::Result<usize>
-    ensures bound { IfOk result (λ n. n ≤ length buf.new) }
-    ensures bytes { IfOk result (λ n. Consumes (R.remaining input.old) (R.remaining input.new) (take n buf.new)) }
-    ensures end { IfOk result (λ n. n < length buf.new → IsAtEnd (R.remaining input.new)) }
-{
-    let mut n = 0;
-    while n < buf.len() {
-        let more = input.read(&mut buf[n..])?;
-        if more == 0 {
-            return Ok(n);
-        }
-        n += more;
-    }
-    Ok(n)
-}
 
 // Reads a package and writes what is printed for it. One byte more than a package may have is asked for, so that a longer input is seen to be
 // too long; nothing behind that byte is read. Behind an error, what was read and written is left open.

@@ -2,9 +2,10 @@
 use mathlib.Core.Path.{◌≡◌, refl, sym, ◌∙◌, ap}
 use mathlib.Core.Bool.{Bool, true, false}
 use mathlib.Core.List.{List, [], ◌∷◌}
-use Prim.Native.Nat.{ℕ, zero, suc, ◌+◌, ◌*◌, ◌/◌, ◌%◌, ◌≤◌, ◌<◌}
+use Prim.Native.Nat.{ℕ, zero, suc, ◌+◌, ◌/◌, ◌%◌, ◌≤◌, ◌<◌}
 use native.Mathlib.Decide.{ℕ_discrete}
 use native.Mathlib.Omega.{arith}
+use Rattle.std.specs.Prelude.{Option, Some}
 use lib.Dec.{eqb}
 use lib.ListN.{length, get_or, set, drop, length-set}
 use lib.Seq.{get_or-set_same, get_or-set_other, drop-drop}
@@ -21,19 +22,6 @@ unfolding flag_of
 flag-most true = omega arith
 flag-most false = omega arith
 
-pub flag-yes : {b : Bool} → b ≡ true → 1 ≡ flag_of b
-unfolding flag_of
-flag-yes q = rw q
-
-pub flag_no : {b : Bool} → b ≡ false → 0 ≡ flag_of b
-unfolding flag_of
-flag_no q = rw q
-
--- the number as the code computes it
-pub packed_as : (f : PairAt) (x : ℕ) → x ≡ flag_of f.inside → ((f.first * 64 + f.second) * 1024 + (f.shared * 32 + f.at)) * 2 + x ≡ packed_pair f
-unfolding packed_pair
-packed_as f x e = ap (λ (z : ℕ). ((f.first * 64 + f.second) * 1024 + (f.shared * 32 + f.at)) * 2 + z) e
-
 flag_is : (b : Bool) (x : ℕ) → x ≡ flag_of b → eqb x 1 ≡ b
 unfolding flag_of
 flag_is true x e = eq-eqb x 1 e
@@ -41,10 +29,9 @@ flag_is false x e = ne_eqb x 1 (λ q. omega arith)
 
 -- a number tells its pair
 pub unpacked_is : (f : PairAt) (x : ℕ) → Small f → x ≡ packed_pair f
-    → record { present = true; inside = eqb (x % 2) 1; first = x / 131072; second = x / 2048 % 64; shared = x / 64 % 32; at = x / 2 % 32 } ≡ f
+    → record { inside = eqb (x % 2) 1; first = x / 131072; second = x / 2048 % 64; shared = x / 64 % 32; at = x / 2 % 32 } ≡ f
 unfolding packed_pair
 unpacked_is f x s e =
-    let p = s.present in
     let a = s.first in
     let b = s.second in
     let c = s.shared in
@@ -55,7 +42,7 @@ unpacked_is f x s e =
     let shared : x / 64 % 32 ≡ f.shared = omega arith in
     let at : x / 2 % 32 ≡ f.at = omega arith in
     let inside = flag_is f.inside (x % 2) (omega arith) in
-    λ i. record { present = sym p i; inside = inside i; first = first i; second = second i; shared = shared i; at = at i }
+    λ i. record { inside = inside i; first = first i; second = second i; shared = shared i; at = at i }
 
 pub packed-few : (f : PairAt) → Small f → packed_pair f < 8388608
 unfolding packed_pair
@@ -73,20 +60,20 @@ set_past (y ∷ l) zero x h = absurd (omega arith)
 set_past (y ∷ l) (suc k) x h = ap (λ (r : List ℕ). y ∷ r) (set_past l k x (omega arith))
 
 -- a pair that was found among at most 64 words
-pub found-small : (lens : List ℕ) (n : ℕ) (f : PairAt) → n ≤ 64 → FoundAt lens n f → f.present ≡ true → Small f
-found-small lens n f m h p =
+pub found-small : (lens : List ℕ) (n : ℕ) (f : PairAt) → n ≤ 64 → FoundAt lens n f → Small f
+found-small lens n f m h =
     let a = h.first in
     let b = h.second in
     let c = h.within_first in
     let d = h.short-first in
-    record { present = p; first = omega arith; second = omega arith; shared = omega arith; at = omega arith }
+    record { first = omega arith; second = omega arith; shared = omega arith; at = omega arith }
 
 module _ (lens : List ℕ) (n : ℕ) (ws : List Word) where
   pub kept-none : (kept : List ℕ) → KeptPairs lens n ws kept 0
   kept-none kept k l m = absurd (omega arith)
 
   -- one more pair is kept
-  module _ (count : ℕ) (f : PairAt) (p : f.present ≡ true) (m : n ≤ 64) (h : FoundAt lens n f) (e : seen_pairs ws f ≡ drop count (overlaps ws)) where
+  module _ (count : ℕ) (f : PairAt) (m : n ≤ 64) (h : FoundAt lens n f) (e : seen_pairs ws (Some f) ≡ drop count (overlaps ws)) where
     pub kept_one : (kept : List ℕ) → KeptPairs lens n ws kept count → KeptPairs lens n ws (set kept count (packed_pair f)) (count + 1)
     kept_one kept q k l b = go (ℕ_discrete k count)
       where
@@ -96,7 +83,7 @@ module _ (lens : List ℕ) (n : ℕ) (ws : List Word) where
         go : Dec (k ≡ count) → KeptPair lens n ws (get_or (set kept count (packed_pair f)) k 0) k
         go (yes r) = record {
           pair = f;
-          small = found-small lens n f m h p;
+          small = found-small lens n f m h;
           is = rw r (get_or-set_same kept count (packed_pair f) 0 (let z = inside in omega arith));
           found = h;
           left = rw r e;
@@ -104,7 +91,7 @@ module _ (lens : List ℕ) (n : ℕ) (ws : List Word) where
         go (no r) = rw (get_or-set_other kept count k (packed_pair f) 0 r) (q k inside (omega arith))
 
     -- what is left behind it
-    pub left_behind : (g : PairAt) → seen_pairs ws g ≡ pairs_at ws (behind f) → seen_pairs ws g ≡ drop (count + 1) (overlaps ws)
+    pub left_behind : (g : Option PairAt) → seen_pairs ws g ≡ pairs_at ws (behind f) → seen_pairs ws g ≡ drop (count + 1) (overlaps ws)
     left_behind g r =
-        let z : drop count (overlaps ws) ≡ pair_of f ∷ pairs_at ws (behind f) = sym e ∙ seen_one ws f p in
+        let z : drop count (overlaps ws) ≡ pair_of f ∷ pairs_at ws (behind f) = sym e ∙ seen_one ws f in
         r ∙ ap (drop 1) (sym z) ∙ drop-drop 1 count (overlaps ws)

@@ -1,9 +1,7 @@
 -- The laws that this crate's functions are proved by, and those of a walk from pair to pair.
 pub mod Passing
 pub mod PassedOver
-pub mod Places
 pub mod Positions
-pub mod PlaceTurns
 pub mod Searching
 pub mod SeenPairs
 pub mod KeptPairs

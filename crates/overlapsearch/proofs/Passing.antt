@@ -8,8 +8,7 @@ use native.Mathlib.Omega.{arith}
 use lib.Dec.{eqb}
 use lib.ListN.{length, take, drop, length-take, length-drop}
 use Rattle.lists.specs.Same.{same}
-use Rattle.words.specs.declared.Found.{Found}
-use Rattle.words.specs.declared.Found.TheVariants.{At, Nowhere}
+use Rattle.std.specs.Prelude.{Option, Some, None}
 use Rattle.words.specs.Word.{Word}
 use Rattle.words.specs.Place.{begins, stands_at}
 use Rattle.wordplaces.proofs.PlaceTurns.{stands-inside}
@@ -36,7 +35,7 @@ shares-stands u v n h k =
     ∙ begins-same (take n v) (drop (length u - n) u) (omega (arith, length-take n v, length-drop (length u - n) u))
 
 module _ (test : ℕ → Bool) (m n : ℕ) where
-  pub passing_here : n < m → test n ≡ true → next_passing test n (m - n) ≡ At n
+  pub passing_here : n < m → test n ≡ true → next_passing test n (m - n) ≡ Some n
   unfolding next_passing
   passing_here h e = let k : m - n ≡ suc (m - suc n) = omega arith in rw (k, next_passing, e)
 
@@ -44,7 +43,7 @@ module _ (test : ℕ → Bool) (m n : ℕ) where
   unfolding next_passing
   passing_later h e = let k : m - n ≡ suc (m - suc n) = omega arith in rw (k, add-one n, next_passing, e)
 
-  pub passing_end : m ≤ n → next_passing test n (m - n) ≡ Nowhere
+  pub passing_end : m ≤ n → next_passing test n (m - n) ≡ None
   unfolding next_passing
   passing_end h = let k : m - n ≡ 0 = omega arith in rw k
 
@@ -56,9 +55,9 @@ module _ (X : Part) (u v : Word) (i j : ℕ) where
     pub passes : X.passes u v r ≡ true
     pub pairs : pairs_from X u v i j s k ≡ X.pair u v i j r ∷ pairs_from X u v i j (suc r) (s + k - suc r)
 
-  Told : ℕ → ℕ → Found → Type 0
-  Told s k Nowhere = pairs_from X u v i j s k ≡ []
-  Told s k (At r) = Found_at s k r
+  Told : ℕ → ℕ → Option ℕ → Type 0
+  Told s k None = pairs_from X u v i j s k ≡ []
+  Told s k (Some r) = Found_at s k r
 
   told : (s k : ℕ) → Told s k (next_passing (X.passes u v) s k)
   unfolding Told next_passing pairs_from
@@ -68,19 +67,19 @@ module _ (X : Part) (u v : Word) (i j : ℕ) where
       count : s + suc k - suc s ≡ k
       count = omega arith
 
-      go : (b : Bool) → X.passes u v s ≡ b → (o : Found) → Told (suc s) k o → Told s (suc k) (elim b [ true ↦ At s | false ↦ o ])
+      go : (b : Bool) → X.passes u v s ≡ b → (o : Option ℕ) → Told (suc s) k o → Told s (suc k) (elim b [ true ↦ Some s | false ↦ o ])
       go true e o h = record { from = omega arith; below = omega arith; passes = e; pairs = rw (pairs_from, e, count) }
-      go false e Nowhere h = rw (pairs_from, e) h
-      go false e (At r) h =
+      go false e None h = rw (pairs_from, e) h
+      go false e (Some r) h =
           let n : s + suc k - suc r ≡ suc s + k - suc r = omega arith in
           let x = h.from in
           let y = h.below in
           record { from = omega arith; below = omega arith; passes = h.passes; pairs = rw (pairs_from, e, n) h.pairs }
 
-  pub told_at : (s k r : ℕ) → next_passing (X.passes u v) s k ≡ At r → Found_at s k r
+  pub told_at : (s k r : ℕ) → next_passing (X.passes u v) s k ≡ Some r → Found_at s k r
   unfolding Told
   told_at s k r e = rw e at (told s k)
 
-  pub told-nowhere : (s k : ℕ) → next_passing (X.passes u v) s k ≡ Nowhere → pairs_from X u v i j s k ≡ []
+  pub told-nowhere : (s k : ℕ) → next_passing (X.passes u v) s k ≡ None → pairs_from X u v i j s k ≡ []
   unfolding Told
   told-nowhere s k e = rw e at (told s k)

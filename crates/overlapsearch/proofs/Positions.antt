@@ -8,7 +8,7 @@ use native.Mathlib.Decide.{dec_lt}
 use lib.ListN.{length, get_or, drop, drop_of_length-le}
 use lib.Seq.{drop-cons}
 use borrow.Author.Tests.{lt-ltb, le-ltb}
-use Rattle.words.specs.declared.Found.TheVariants.{At, Nowhere}
+use Rattle.std.specs.Prelude.{Some, None}
 use Rattle.words.specs.Word.{Word}
 use Rattle.overlaps.specs.Pairs.{Pair}
 use Rattle.overlaps.specs.Overlaps.{Part, placing, pairs_from, pairs_of, with_first, from_first, overlaps}
@@ -44,7 +44,7 @@ module _ (X : Part) (ws : List Word) where
     limit = X.limit u v (suc first) (suc second)
 
     -- a number of the two words is the next
-    pub rows-found : (r : ℕ) → next_in X u v (suc first) (suc second) n ≡ At r
+    pub rows-found : (r : ℕ) → next_in X u v (suc first) (suc second) n ≡ Some r
         → rows_at X ws first second n ≡ X.pair u v (suc first) (suc second) r ∷ rows_at X ws first second (suc r)
     unfolding rows_at
     rows-found r e =
@@ -55,7 +55,7 @@ module _ (X : Part) (ws : List Word) where
         rw (f.pairs, k)
 
     -- none is left
-    module _ (e : next_in X u v (suc first) (suc second) n ≡ Nowhere) where
+    module _ (e : next_in X u v (suc first) (suc second) n ≡ None) where
       none_here : pairs_from X u v (suc first) (suc second) n (limit - n) ≡ []
       none_here = told-nowhere X u v (suc first) (suc second) n (limit - n) e
 
@@ -137,7 +137,7 @@ module _ (ws : List Word) where
     second_word = get_or ws c.second []
 
     -- a pair of the two words is the next
-    pub at_found : (r : ℕ) → next_at first_word second_word c ≡ At r
+    pub at_found : (r : ℕ) → next_at first_word second_word c ≡ Some r
         → part_at ws c ≡ X.pair first_word second_word (suc c.first) (suc c.second) r ∷ part_at ws (record { inside = c.inside; first = c.first; second = c.second; number = suc r })
     at_found r e =
         part-rows c h
@@ -146,7 +146,7 @@ module _ (ws : List Word) where
         (sym (part-rows (record { inside = c.inside; first = c.first; second = c.second; number = suc r }) h))
 
     -- no pair of the two words is left: on with the two behind
-    pub at_next : next_at first_word second_word c ≡ Nowhere → part_at ws (row_after c (length ws)) ≡ part_at ws c
+    pub at_next : next_at first_word second_word c ≡ None → part_at ws (row_after c (length ws)) ≡ part_at ws c
     at_next e = go (dec_lt (suc c.second) (length ws)) (dec_lt (suc c.first) (length ws))
       where
         go : Dec (suc c.second < length ws) → Dec (suc c.first < length ws) → part_at ws (row_after c (length ws)) ≡ part_at ws c

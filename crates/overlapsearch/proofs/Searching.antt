@@ -6,7 +6,7 @@ use Prim.Native.Nat.{ℕ, suc, ◌+◌, ◌-◌, ◌*◌, ◌≤◌, ◌<◌, mi
 use native.Mathlib.Decide.{dec_lt}
 use native.Mathlib.Omega.{arith}
 use lib.ListN.{length, get_or}
-use Rattle.words.specs.declared.Found.TheVariants.{At, Nowhere}
+use Rattle.std.specs.Prelude.{Option, Some, None, IfSome}
 use Rattle.words.specs.Word.{Word}
 use Rattle.words.specs.Laid.{laid_word, laid_words, WordInside, Laid}
 use Rattle.words.proofs.LaidWords.{laid-length, laid_at, word-inside, laid-word-length}
@@ -16,9 +16,19 @@ use Rattle.overlaps.specs.Overlaps.{placing, from_first}
 use Rattle.overlaps.proofs.Listed.{stands-length}
 use Rattle.overlapsearch.specs.declared.Cursor.{Cursor}
 use Rattle.overlapsearch.specs.declared.PairAt.{PairAt}
-use Rattle.overlapsearch.specs.Position.{part_of, next_at, part_at, parts_behind, pairs_at, turn, row_after, pair_found, pair_of, number_of, behind, seen_in_part, seen_pairs, Placed, AtMost24, FoundAt}
+use Rattle.overlapsearch.specs.Position.{part_of, next_in, shared_by, next_at, part_at, parts_behind, pairs_at, turn, row_after, pair_found, pair_of, number_of, behind, seen_in_part, seen_pairs, Placed, AtMost24, FoundAt}
 use Rattle.overlapsearch.proofs.Passing.{told_at}
 use Rattle.overlapsearch.proofs.Positions.{after-second, after_first, part_end, at_turn, at_found, at_next, left-inclusions, left-overlaps}
+
+-- the next number of a place's part
+module _ (u v : Word) (c : Cursor) where
+  pub next-inside : c.inside ≡ true → next_in placing u v (suc c.first) (suc c.second) c.number ≡ next_at u v c
+  unfolding part_of
+  next-inside q = ap (λ (b : Bool). next_in (part_of b) u v (suc c.first) (suc c.second) c.number) (sym q)
+
+  pub next-shared : c.inside ≡ false → shared_by u v c.number ≡ next_at u v c
+  unfolding part_of
+  next-shared q = ap (λ (b : Bool). next_in (part_of b) u v (suc c.first) (suc c.second) c.number) (sym q)
 
 pub record Searching (starts lens bytes : List ℕ) (n : ℕ) (c₀ c : Cursor) : Type 0 where
   pub laid : Laid starts lens bytes n
@@ -49,7 +59,7 @@ further n c h p l = go (dec_lt (suc c.second) n)
 -- the pair that was found, and those behind it
 module _ (ws : List Word) (u v : Word) (first second r : ℕ) where
   pub found-seen : (inside : Bool) (number : ℕ)
-      → seen_in_part ws (pair_found (record { inside = inside; first = first; second = second; number = number }) (length u) (length v) r)
+      → seen_in_part ws (Some (pair_found (record { inside = inside; first = first; second = second; number = number }) (length u) (length v) r))
       ≡ (part_of inside).pair u v (suc first) (suc second) r ∷ part_at ws (record { inside = inside; first = first; second = second; number = suc r })
   unfolding seen_in_part pair_found number_of part_of
   found-seen true number = refl
@@ -72,7 +82,7 @@ record Within (a b : ℕ) (c : Cursor) (f : PairAt) : Type 0 where
   within-second : f.shared ≤ b
 
 module _ (u v : Word) (first second number r : ℕ) where
-  found_within : (inside : Bool) → next_at u v (record { inside = inside; first = first; second = second; number = number }) ≡ At r
+  found_within : (inside : Bool) → next_at u v (record { inside = inside; first = first; second = second; number = number }) ≡ Some r
       → Within (length u) (length v) (record { inside = inside; first = first; second = second; number = number })
       (pair_found (record { inside = inside; first = first; second = second; number = number }) (length u) (length v) r)
   unfolding pair_found part_of
@@ -87,7 +97,7 @@ module _ (u v : Word) (first second number r : ℕ) where
       record { first = refl; second = refl; within_first = omega arith; within-second = omega arith }
 
   -- the number of shared letters is no more than the first word has
-  pub found-least : next_at u v (record { inside = false; first = first; second = second; number = number }) ≡ At r → r ≤ length u
+  pub found-least : next_at u v (record { inside = false; first = first; second = second; number = number }) ≡ Some r → r ≤ length u
   unfolding part_of
   found-least e =
       let f = told_at (part_of false) u v (suc first) (suc second) number (min (length u) (length v) - number) r e in
@@ -134,21 +144,21 @@ module _ (starts lens bytes : List ℕ) (n : ℕ) (c₀ : Cursor) where
       second-length : length (laid_word starts lens bytes c.second) ≡ get_or lens c.second 0
       second-length = laid-word-length starts lens bytes n h.laid c.second second_in
 
-      module _ (r : ℕ) (e : next_at (laid_word starts lens bytes c.first) (laid_word starts lens bytes c.second) c ≡ At r) where
+      module _ (r : ℕ) (e : next_at (laid_word starts lens bytes c.first) (laid_word starts lens bytes c.second) c ≡ Some r) where
         pub number-within : c.inside ≡ false → r ≤ get_or lens c.first 0
         number-within q =
             let k = found-least (laid_word starts lens bytes c.first) (laid_word starts lens bytes c.second) c.first c.second c.number r
             (ap (λ (b : Bool). next_at (laid_word starts lens bytes c.first) (laid_word starts lens bytes c.second) (record { inside = b; first = c.first; second = c.second; number = c.number })) (sym q) ∙ e) in
             omega (arith, k, first-length)
 
-        pub searching_found : (seen_in_part ws (pair_found c (get_or lens c.first 0) (get_or lens c.second 0) r) ≡ part_at ws c₀)
+        pub searching_found : (seen_in_part ws (Some (pair_found c (get_or lens c.first 0) (get_or lens c.second 0) r)) ≡ part_at ws c₀)
             × (FoundAt lens n (pair_found c (get_or lens c.first 0) (get_or lens c.second 0) r)
             × ((pair_found c (get_or lens c.first 0) (get_or lens c.second 0) r).inside ≡ c₀.inside))
         searching_found = (seen, (found, its_part ∙ h.inside))
           where
-            seen : seen_in_part ws (pair_found c (get_or lens c.first 0) (get_or lens c.second 0) r) ≡ part_at ws c₀
+            seen : seen_in_part ws (Some (pair_found c (get_or lens c.first 0) (get_or lens c.second 0) r)) ≡ part_at ws c₀
             seen =
-                ap₂ (λ (a b : ℕ). seen_in_part ws (pair_found c a b r)) (sym first-length) (sym second-length)
+                ap₂ (λ (a b : ℕ). seen_in_part ws (Some (pair_found c a b r))) (sym first-length) (sym second-length)
                 ∙ found-seen ws (laid_word starts lens bytes c.first) (laid_word starts lens bytes c.second) c.first c.second r c.inside c.number
                 ∙ sym (rw (first_is_lem, second_is) at (at_found ws c first-inside r (rw (← first_is_lem, ← second_is) at e)))
                 ∙ h.same
@@ -171,7 +181,7 @@ module _ (starts lens bytes : List ℕ) (n : ℕ) (c₀ : Cursor) where
             its_part : (pair_found c (get_or lens c.first 0) (get_or lens c.second 0) r).inside ≡ c.inside
             its_part = found_part c (get_or lens c.first 0) (get_or lens c.second 0) r
 
-      pub searching_next : next_at (laid_word starts lens bytes c.first) (laid_word starts lens bytes c.second) c ≡ Nowhere
+      pub searching_next : next_at (laid_word starts lens bytes c.first) (laid_word starts lens bytes c.second) c ≡ None
           → Searching starts lens bytes n c₀ (row_after c n)
       searching_next e =
           let e' = rw (← first_is_lem, ← second_is) at e in
@@ -185,55 +195,44 @@ module _ (starts lens bytes : List ℕ) (n : ℕ) (c₀ : Cursor) where
             same = ap (λ (m : ℕ). part_at ws (row_after c m)) (sym k) ∙ at_next ws c first-inside e' ∙ h.same;
           }
 
-    pub searching_end : n ≤ c.first → (f : PairAt) → f.present ≡ false → seen_in_part ws f ≡ part_at ws c₀
+    pub searching_end : n ≤ c.first → seen_in_part ws None ≡ part_at ws c₀
     unfolding seen_in_part
-    searching_end l f p =
-        let k = laid-length starts lens bytes n in
-        rw (seen_in_part, p) (sym (part_end ws c (omega arith)) ∙ h.same)
+    searching_end l = let k = laid-length starts lens bytes n in sym (part_end ws c (omega arith)) ∙ h.same
 
 -- A place of a part, as the code has it.
-pub of_part : (ws : List Word) (lens : List ℕ) (n : ℕ) (f : PairAt) (c : Cursor) (b : Bool) → c.inside ≡ b
-    → (seen_in_part ws f ≡ part_at ws (record { inside = b; first = c.first; second = c.second; number = c.number })) × (f.present ≡ true → FoundAt lens n f × (f.inside ≡ b))
-    → (seen_in_part ws f ≡ part_at ws c) × (f.present ≡ true → FoundAt lens n f × (f.inside ≡ c.inside))
-of_part ws lens n f c b q (e, h) = (
-  e ∙ ap (λ (t : Bool). part_at ws (record { inside = t; first = c.first; second = c.second; number = c.number })) (sym q),
-  λ p. ((h p).0, (h p).1 ∙ sym q),
-)
+pub of_part : (ws : List Word) (r : Option PairAt) (c : Cursor) (b : Bool) → c.inside ≡ b
+    → seen_in_part ws r ≡ part_at ws (record { inside = b; first = c.first; second = c.second; number = c.number })
+    → seen_in_part ws r ≡ part_at ws c
+of_part ws r c b q e = e ∙ ap (λ (t : Bool). part_at ws (record { inside = t; first = c.first; second = c.second; number = c.number })) (sym q)
 
 -- From a part to the list.
 module _ (ws : List Word) (c : Cursor) where
   -- a pair is found: behind what is left of the part come the parts behind it
-  pub seen_here : (f : PairAt) → f.present ≡ true → f.inside ≡ c.inside → seen_in_part ws f ≡ part_at ws c → seen_pairs ws f ≡ pairs_at ws c
+  pub seen_here : (f : PairAt) → f.inside ≡ c.inside → seen_in_part ws (Some f) ≡ part_at ws c → seen_pairs ws (Some f) ≡ pairs_at ws c
   unfolding seen_pairs seen_in_part pairs_at
-  seen_here f p t e =
-      let all : seen_pairs ws f ≡ pair_of f ∷ pairs_at ws (behind f) = rw (seen_pairs, p) in
-      let part : seen_in_part ws f ≡ pair_of f ∷ part_at ws (behind f) = rw (seen_in_part, p) in
-      all
-      ∙ ap (λ (b : Bool). (pair_of f ∷ part_at ws (behind f)) ++ parts_behind b ws) t
-      ∙ ap (λ (os : List Pair). os ++ parts_behind c.inside ws) (sym part ∙ e)
+  seen_here f t e =
+      ap (λ (b : Bool). (pair_of f ∷ part_at ws (behind f)) ++ parts_behind b ws) t
+      ∙ ap (λ (os : List Pair). os ++ parts_behind c.inside ws) e
 
-  module _ (f : PairAt) (p : f.present ≡ false) (e : seen_in_part ws f ≡ part_at ws c) where
+  module _ (e : seen_in_part ws None ≡ part_at ws c) where
     none : part_at ws c ≡ []
     unfolding seen_in_part
-    none = let z : seen_in_part ws f ≡ [] = rw (seen_in_part, p) in sym e ∙ z
+    none = sym e
 
     -- no inclusion is left: nothing is
-    pub seen_nothing : c.inside ≡ true → seen_pairs ws f ≡ pairs_at ws c
+    pub seen_nothing : c.inside ≡ true → seen_pairs ws None ≡ pairs_at ws c
     unfolding seen_pairs
-    seen_nothing q = let z : seen_pairs ws f ≡ [] = rw (seen_pairs, p) in z ∙ sym (left-inclusions ws c q ∙ none)
+    seen_nothing q = sym (left-inclusions ws c q ∙ none)
 
     -- no overlap is left: the inclusions
-    pub seen-turn : c.inside ≡ false → (g : PairAt) → seen_pairs ws g ≡ pairs_at ws turn → seen_pairs ws g ≡ pairs_at ws c
+    pub seen-turn : c.inside ≡ false → (g : Option PairAt) → seen_pairs ws g ≡ pairs_at ws turn → seen_pairs ws g ≡ pairs_at ws c
     seen-turn q g d =
         d ∙ left-inclusions ws turn refl ∙ at_turn ws
         ∙ ap (λ (os : List Pair). os ++ from_first placing ws ws 1) (sym none)
         ∙ sym (left-overlaps ws c q)
 
 -- Found in the inclusions, or nothing.
-pub seen-inclusions : (ws : List Word) (c : Cursor) (g : PairAt) → c.inside ≡ true → (g.present ≡ true → g.inside ≡ c.inside) → seen_in_part ws g ≡ part_at ws c
-    → seen_pairs ws g ≡ pairs_at ws c
-seen-inclusions ws c g q t d = go g.present refl
-  where
-    go : (b : Bool) → g.present ≡ b → seen_pairs ws g ≡ pairs_at ws c
-    go true p = seen_here ws c g p (t p) d
-    go false p = seen_nothing ws c g p d q
+pub seen-inclusions : (ws : List Word) (lens : List ℕ) (n : ℕ) (c : Cursor) (g : Option PairAt) → c.inside ≡ true
+    → IfSome g (λ f. FoundAt lens n f × (f.inside ≡ c.inside)) → seen_in_part ws g ≡ part_at ws c → seen_pairs ws g ≡ pairs_at ws c
+seen-inclusions ws lens n c None q t d = seen_nothing ws c d q
+seen-inclusions ws lens n c (Some f) q t d = seen_here ws c f t.1 d

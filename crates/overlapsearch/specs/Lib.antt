@@ -1,2 +1,3 @@
 pub mod Position
+pub mod Leading
 pub mod Kept

@@ -1,7 +1,5 @@
 -- Places in the order of the pairs, and what is left of their list from a place on.
-use Rattle.std.specs.Prelude.{Bool, true, false, List, [], ◌∷◌, ◌++◌, ℕ, zero, suc, ◌+◌, ◌-◌, ◌≤◌, ◌<◌, min, ltb, length, get_or, drop}
-use Rattle.words.specs.declared.Found.{Found}
-use Rattle.words.specs.declared.Found.TheVariants.{At, Nowhere}
+use Rattle.std.specs.Prelude.{Bool, true, false, List, [], ◌∷◌, ◌++◌, ℕ, zero, suc, ◌+◌, ◌-◌, ◌≤◌, ◌<◌, min, ltb, length, get_or, drop, Option, Some, None}
 use Rattle.words.specs.Word.{Word}
 use Rattle.words.specs.Place.{stands_at}
 use Rattle.wordplaces.specs.TwoLetters.{two_same}
@@ -16,16 +14,16 @@ unfolding shares places_in stands_at
 part_of inside = elim inside [ true ↦ placing | false ↦ sharing ]
 
 -- The least number from s on, among k numbers, that passes a test.
-unfoldable pub next_passing : (ℕ → Bool) → ℕ → ℕ → Found
-next_passing test s zero = Nowhere
-next_passing test s (suc k) = elim (test s) [ true ↦ At s | false ↦ next_passing test (suc s) k ]
+unfoldable pub next_passing : (ℕ → Bool) → ℕ → ℕ → Option ℕ
+next_passing test s zero = None
+next_passing test s (suc k) = elim (test s) [ true ↦ Some s | false ↦ next_passing test (suc s) k ]
 
 -- The least number from s on that polynomials i and j with leading words u and v give in a part.
-abbrev pub next_in : Part → Word → Word → ℕ → ℕ → ℕ → Found
+abbrev pub next_in : Part → Word → Word → ℕ → ℕ → ℕ → Option ℕ
 next_in X u v i j s = next_passing (X.passes u v) s (X.limit u v i j - s)
 
 -- The least number of letters from s on, below both lengths, that the end of u and the beginning of v share.
-abbrev pub shared_by : Word → Word → ℕ → Found
+abbrev pub shared_by : Word → Word → ℕ → Option ℕ
 shared_by u v s = next_passing (shares u v) s (min (length u) (length v) - s)
 
 -- The least number from k on, among n numbers, where v's letters k - 2 and k - 1 are u's last two; the number behind them where there is none.
@@ -36,7 +34,7 @@ next_agreeing u v k zero = k
 next_agreeing u v k (suc n) = elim (two_same v (k - 2) u (length u - 2)) [ true ↦ k | false ↦ next_agreeing u v (suc k) n ]
 
 -- The least number from a place on that its two words give.
-abbrev pub next_at : Word → Word → Cursor → Found
+abbrev pub next_at : Word → Word → Cursor → Option ℕ
 next_at u v c = next_in (part_of c.inside) u v (suc c.first) (suc c.second) c.number
 
 -- What the words of a list give in a part from two of them, counted from 0, and a number on: those of the two words, those of the first with the words
@@ -82,8 +80,8 @@ row_after c n = elim (ltb (suc c.second) n) [
 -- The pair of a place's two words, of a and b letters, and a number that they give.
 unfoldable pub pair_found : Cursor → ℕ → ℕ → ℕ → PairAt
 pair_found c a b n = elim c.inside [
-  | true ↦ record { present = true; inside = true; first = c.first; second = c.second; shared = b; at = n }
-  | false ↦ record { present = true; inside = false; first = c.first; second = c.second; shared = n; at = a - n }
+  | true ↦ record { inside = true; first = c.first; second = c.second; shared = b; at = n }
+  | false ↦ record { inside = false; first = c.first; second = c.second; shared = n; at = a - n }
 ]
 
 -- As a pair of polynomials: numbers count from 1.
@@ -98,15 +96,17 @@ number_of f = elim f.inside [ true ↦ f.at | false ↦ f.shared ]
 abbrev pub behind : PairAt → Cursor
 behind f = record { inside = f.inside; first = f.first; second = f.second; number = suc (number_of f) }
 
--- The pair that is present and those behind it in its part, or none.
-unfoldable pub seen_in_part : List Word → PairAt → List Pair
+-- A pair that was found and those behind it in its part, or none.
+unfoldable pub seen_in_part : List Word → Option PairAt → List Pair
 unfolding part_at number_of
-seen_in_part ws f = elim f.present [ false ↦ [] | true ↦ pair_of f ∷ part_at ws (behind f) ]
+seen_in_part ws None = []
+seen_in_part ws (Some f) = pair_of f ∷ part_at ws (behind f)
 
--- The pair that is present and all those behind it, or none.
-unfoldable pub seen_pairs : List Word → PairAt → List Pair
+-- A pair that was found and all those behind it, or none.
+unfoldable pub seen_pairs : List Word → Option PairAt → List Pair
 unfolding pairs_at number_of
-seen_pairs ws f = elim f.present [ false ↦ [] | true ↦ pair_of f ∷ pairs_at ws (behind f) ]
+seen_pairs ws None = []
+seen_pairs ws (Some f) = pair_of f ∷ pairs_at ws (behind f)
 
 -- A place among n words: it is behind all of them, or names two of them.
 abbrev pub Placed : ℕ → Cursor → Type 0

@@ -1,28 +1,20 @@
 // The first pairs of the list, kept as numbers, as many as there is room for: who walks the list again need not look for them again.
 
 ghost use Rattle.std.specs.Prelude.{◌≡◌, length, set};
-ghost use Rattle.overlapsearch.specs.Kept.{flag_of, packed_pair, Small};
+ghost use Rattle.overlapsearch.specs.Kept.{packed_pair, Small};
 
 use crate::PairAt;
 
-// 1 for yes.
-fn flag(b: bool) -> usize
-    ensures { result ≡ flag_of b }
-{
-    if b {
-        return 1;
-    }
-    0
-}
-
 // A pair as one number.
+#[tactic(auto, unfolding(crate::specs::Kept::packed_pair, crate::specs::Kept::flag_of))]
 fn pack_pair(f: PairAt) -> usize
     requires { Small f }
     ensures { result ≡ packed_pair f }
 {
     let words = f.first * 64 + f.second;
     let letters = f.shared * 32 + f.at;
-    (words * 1024 + letters) * 2 + flag(f.inside)
+    let inside = usize::from(f.inside);
+    (words * 1024 + letters) * 2 + inside
 }
 
 // The pair of such a number.
@@ -31,7 +23,6 @@ pub fn unpack_pair(packed: u32) -> PairAt
 {
     let x = packed as usize;
     PairAt {
-        present: true,
         inside: x % 2 == 1,
         first: x / 131072,
         second: x / 2048 % 64,

@@ -1,10 +1,10 @@
 // The pairs of leading words (documents 01, 'Overlaps', and 02, P2): each one found behind the last, in the order of the list, and how many there are.
-// The leading words lie in the package's bytes: word g, from 0, is the lens[g] bytes from starts[g] on.
 #![tactic(auto)]
 
 pub mod finding;
 pub mod inside;
 pub mod keeping;
+pub mod leading;
 pub mod shared;
 pub mod walking;
 
@@ -18,11 +18,28 @@ pub struct Cursor {
     pub number: usize,
 }
 
-// A pair of two leading words, counted from 0, if one is present: an overlap or, where `inside`, an inclusion.
+impl Cursor {
+    // The first place of all.
+    pub const ORIGIN: Cursor = Cursor {
+        inside: false,
+        first: 0,
+        second: 0,
+        number: 1,
+    };
+
+    // The first place of the inclusions.
+    pub const TURN: Cursor = Cursor {
+        inside: true,
+        first: 0,
+        second: 0,
+        number: 0,
+    };
+}
+
+// A pair of two leading words, counted from 0: an overlap or, where `inside`, an inclusion.
 #[derive(Clone, Copy)]
 pub struct PairAt {
     pub first: usize,
-    pub present: bool,
     pub second: usize,
     pub inside: bool,
     pub shared: usize,

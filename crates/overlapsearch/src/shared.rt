@@ -1,10 +1,10 @@
 // How many letters two leading words share: the last letters of the first are the first letters of the second.
 
-ghost use Rattle.std.specs.Prelude.{◌≡◌, ◌-◌, ◌≤◌, ◌<◌, length};
+ghost use Rattle.std.specs.Prelude.{◌≡◌, ◌-◌, ◌≤◌, length};
 ghost use Rattle.overlaps.specs.Overlaps.{shares};
 ghost use Rattle.overlapsearch.specs.Position.{next_agreeing, shared_by};
 
-use lists::numbers::lesser;
+use wordplaces::place::stands_at;
 use wordplaces::two_letters::two_same;
 
 // Whether the last n letters of u are the first n of v.
@@ -13,7 +13,7 @@ pub fn is_shared(u: &[u8], v: &[u8], n: usize) -> bool
     ensures { result ≡ shares u.now v.now n }
 {
     let at = u.len() - n;
-    let stood = wordplaces::place::stands_at(&v[0..n], u, at);
+    let stood = stands_at(&v[..n], u, at);
     stood.stands
 }
 
@@ -22,28 +22,26 @@ fn next_agreeing(u: &[u8], v: &[u8], n: usize, most: usize) -> usize
     requires { (2 ≤ n) × (n ≤ most) × (most ≤ length u.now) × (most ≤ length v.now) }
     ensures { result ≡ next_agreeing u.now v.now n (most - n) }
 {
-    let mut k = n;
-    while k < most {
+    for k in n..most {
         if two_same(v, k - 2, u, u.len() - 2) {
             return k;
         }
-        k += 1;
     }
     most
 }
 
 // The least number of shared letters from s on, below both lengths. Numbers where the last two letters say that so many are not shared are
 // passed over.
-pub fn next_shared(u: &[u8], v: &[u8], s: usize) -> words::Found
+pub fn next_shared(u: &[u8], v: &[u8], s: usize) -> Option<usize>
     ensures { result ≡ shared_by u.now v.now s }
 {
-    let most = lesser(u.len(), v.len());
+    let most = u.len().min(v.len());
     let mut n = s;
     while n < most {
         if is_shared(u, v, n) {
-            return words::Found::At(n);
+            return Some(n);
         }
         n = next_agreeing(u, v, n + 1, most);
     }
-    words::Found::Nowhere
+    None
 }

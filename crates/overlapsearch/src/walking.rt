@@ -1,30 +1,24 @@
 // The pairs one after the other, and how many there are.
 
-ghost use Rattle.std.specs.Prelude.{◌≡◌, true, ◌≤◌, length};
-ghost use Rattle.words.specs.Laid.{laid_words, Laid};
+ghost use Rattle.std.specs.Prelude.{◌≡◌, ◌≤◌, length, IfSome};
 ghost use Rattle.overlaps.specs.Overlaps.{overlaps};
-ghost use Rattle.overlapsearch.specs.Position.{number_of, pairs_at, behind, seen_pairs, AtMost24, FoundAt};
+ghost use Rattle.overlapsearch.specs.Leading.{words_in};
+ghost use Rattle.overlapsearch.specs.Position.{number_of, pairs_at, behind, seen_pairs, FoundAt};
 
 use crate::finding::next_pair;
+use crate::leading::LeadingWords;
 use crate::{Cursor, PairAt};
 
 // The first pair of all.
-pub fn first_pair(starts: &[usize], lens: &[usize], bytes: &[u8], n: usize) -> PairAt
-    requires laid { Laid starts.now lens.now bytes.now n }
-    requires n_bound { (n ≤ 64) × AtMost24 lens.now n }
-    ensures result_value { seen_pairs (laid_words starts.now lens.now bytes.now n) result ≡ overlaps (laid_words starts.now lens.now bytes.now n) }
-    ensures found_at { result.present ≡ true → FoundAt lens.now n result }
+pub fn first_pair(words: &LeadingWords) -> Option<PairAt>
+    ensures result_value { seen_pairs (words_in words.now) result ≡ overlaps (words_in words.now) }
+    ensures found_at { IfSome result (λ f. FoundAt words.now.lens.now words.now.count f) }
 {
-    let origin = Cursor {
-        inside: false,
-        first: 0,
-        second: 0,
-        number: 1,
-    };
-    next_pair(starts, lens, bytes, n, origin)
+    next_pair(words, Cursor::ORIGIN)
 }
 
 // The number of a pair's place.
+#[tactic(auto, unfolding(crate::specs::Position::number_of))]
 fn number_of(f: PairAt) -> usize
     ensures { result ≡ number_of f }
 {
@@ -49,26 +43,23 @@ pub fn place_behind(f: PairAt) -> Cursor
 }
 
 // The pair behind one.
-pub fn pair_behind(starts: &[usize], lens: &[usize], bytes: &[u8], n: usize, f: PairAt) -> PairAt
-    requires laid { Laid starts.now lens.now bytes.now n }
-    requires n_bound { (n ≤ 64) × AtMost24 lens.now n × FoundAt lens.now n f }
-    ensures result_value { seen_pairs (laid_words starts.now lens.now bytes.now n) result ≡ pairs_at (laid_words starts.now lens.now bytes.now n) (behind f) }
-    ensures found_at { result.present ≡ true → FoundAt lens.now n result }
+pub fn pair_behind(words: &LeadingWords, f: PairAt) -> Option<PairAt>
+    requires { FoundAt words.now.lens.now words.now.count f }
+    ensures result_value { seen_pairs (words_in words.now) result ≡ pairs_at (words_in words.now) (behind f) }
+    ensures found_at { IfSome result (λ g. FoundAt words.now.lens.now words.now.count g) }
 {
-    next_pair(starts, lens, bytes, n, place_behind(f))
+    next_pair(words, place_behind(f))
 }
 
 // How many pairs there are.
-pub fn count_pairs(starts: &[usize], lens: &[usize], bytes: &[u8], n: usize) -> usize
-    requires laid { Laid starts.now lens.now bytes.now n }
-    requires n_bound { (n ≤ 64) × AtMost24 lens.now n }
-    ensures { result ≡ length (overlaps (laid_words starts.now lens.now bytes.now n)) }
+pub fn count_pairs(words: &LeadingWords) -> usize
+    ensures { result ≡ length (overlaps (words_in words.now)) }
 {
     let mut count = 0;
-    let mut f = first_pair(starts, lens, bytes, n);
-    while f.present {
+    let mut next = first_pair(words);
+    while let Some(f) = next {
         count += 1;
-        f = pair_behind(starts, lens, bytes, n, f);
+        next = pair_behind(words, f);
     }
     count
 }

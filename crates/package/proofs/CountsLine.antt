@@ -1,20 +1,17 @@
 -- The value line of block 1: one law for each way through its readers.
-use mathlib.Core.Path.{◌≡◌, refl, sym, ◌∙◌}
+use mathlib.Core.Path.{◌≡◌, refl}
 use mathlib.Core.Bool.{Bool, true, false, false≢true}
 use Prim.Native.Nat.{ℕ, ◌≤◌, ◌<◌}
 use lib.Dec.{ltb}
 use borrow.Author.Tests.{lt-ltb, le-ltb, ltb-false}
-use Rattle.package.specs.Head.{HeadForm, no_head, head, head_form, counts_fit}
-use Rattle.package.specs.Held.{seen_head}
+use Rattle.package.specs.Head.{no_head, head, head_form, counts_fit}
 use Rattle.package.specs.declared.Head.{Head}
-use Rattle.package.specs.declared.HeadRead.{HeadRead}
 use Rattle.text.proofs.Bytewise.{within-bounds}
 use Rattle.text.specs.Bytes.{within}
 use Rattle.text.specs.Field.{none, some, num_then, num_last}
 use Rattle.text.specs.Number.{number}
 use Rattle.text.specs.Pieces.{Pieces}
-use Rattle.text.specs.declared.Num.{Num}
-use Rattle.text.specs.declared.Num.TheVariants.{Value}
+use Rattle.std.specs.Prelude.{Some, None}
 
 -- The four fields.
 module _ (ps : Pieces) where
@@ -33,11 +30,11 @@ module _ (ps : Pieces) where
       head-gens c = rw (head_form, a, b, c)
 
       module _ (g : ℕ) (ps₃ : Pieces) (c : num_then number ps₂ ≡ some g ps₃) where
-        pub head-basis : num_last ps₃ ≡ Num.Misshapen → no_head ≡ head_form ps
+        pub head-basis : num_last ps₃ ≡ None → no_head ≡ head_form ps
         unfolding head_form
         head-basis d = rw (head_form, a, b, c, d)
 
-        pub head-whole : (n : ℕ) → num_last ps₃ ≡ Value n → head (record { p = p; letters = l; gens = g; basis = n }) ≡ head_form ps
+        pub head-whole : (n : ℕ) → num_last ps₃ ≡ Some n → head (record { p = p; letters = l; gens = g; basis = n }) ≡ head_form ps
         unfolding head_form
         head-whole n d = rw (head_form, a, b, c, d)
 
@@ -61,20 +58,10 @@ module _ (h : Head) where
       unfolding counts_fit
       counts_whole d = rw (counts_fit, a, le-ltb 32 h.gens b, le-ltb 64 h.basis d)
 
--- What an answer says of the line.
-module _ (r : HeadRead) (x : HeadForm) where
-  pub seen_no_head : r ≡ HeadRead.Misshapen → seen_head r ≡ x → x ≡ no_head
-  unfolding seen_head
-  seen_no_head q h = sym h ∙ rw q
-
-  pub seen-head : (p l g b : ℕ) → r ≡ HeadRead.Counts p l g b → seen_head r ≡ x → x ≡ head (record { p = p; letters = l; gens = g; basis = b })
-  unfolding seen_head
-  seen-head p l g b q h = sym h ∙ rw q
-
 -- Counts in bounds.
-pub counts-bounds : (h : Head) → counts_fit h ≡ true → (h.letters ≤ 26) × (h.gens ≤ 32) × (h.basis ≤ 64)
+pub counts_bounds : (h : Head) → counts_fit h ≡ true → (h.letters ≤ 26) × (h.gens ≤ 32) × (h.basis ≤ 64)
 unfolding counts_fit
-counts-bounds h e = go (within 1 26 h.letters) (ltb 32 h.gens) (ltb 64 h.basis) refl refl refl e
+counts_bounds h e = go (within 1 26 h.letters) (ltb 32 h.gens) (ltb 64 h.basis) refl refl refl e
   where
     go : (t u v : Bool) → within 1 26 h.letters ≡ t → ltb 32 h.gens ≡ u → ltb 64 h.basis ≡ v
         → ◌≡◌ {A = Bool} (elim t [ false ↦ false | true ↦ elim u [ true ↦ false | false ↦ elim v [ true ↦ false | false ↦ true ] ] ]) true

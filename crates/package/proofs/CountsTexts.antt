@@ -12,8 +12,7 @@ use Rattle.text.proofs.PieceTexts.{fields-written, without-joined}
 use Rattle.text.specs.Field.{Got, none, some, num_then, num_last}
 use Rattle.text.specs.Number.{number, write_number}
 use Rattle.text.specs.Pieces.{Pieces, piece, fields, write_fields, Without, Clear, clear, clears}
-use Rattle.text.specs.declared.Num.{Num}
-use Rattle.text.specs.declared.Num.TheVariants.{Misshapen, Value}
+use Rattle.std.specs.Prelude.{Option, Some, None}
 
 module _ (ps : Pieces) (h : Head) (e : head_form ps ≡ head h) where
   clash : no_head ≡ head_form ps → ⊥
@@ -21,10 +20,10 @@ module _ (ps : Pieces) (h : Head) (e : head_form ps ≡ head h) where
 
   module _ (p : ℕ) (ps₁ : Pieces) (a : num_then number ps ≡ some p ps₁) where
     module _ (l : ℕ) (ps₂ : Pieces) (b : num_then number ps₁ ≡ some l ps₂) where
-      by_basis : (g : ℕ) (ps₃ : Pieces) → num_then number ps₂ ≡ some g ps₃ → (x : Num) → num_last ps₃ ≡ x → ps ≡ head_fields h
+      by_basis : (g : ℕ) (ps₃ : Pieces) → num_then number ps₂ ≡ some g ps₃ → (x : Option ℕ) → num_last ps₃ ≡ x → ps ≡ head_fields h
       unfolding head_fields
-      by_basis g ps₃ c Misshapen d = absurd (clash (head-basis ps p ps₁ a l ps₂ b g ps₃ c d))
-      by_basis g ps₃ c (Value n) d =
+      by_basis g ps₃ c None d = absurd (clash (head-basis ps p ps₁ a l ps₂ b g ps₃ c d))
+      by_basis g ps₃ c (Some n) d =
           let z : head (record { p = p; letters = l; gens = g; basis = n }) ≡ head h = head-whole ps p ps₁ a l ps₂ b g ps₃ c n d ∙ e in
           let q : record { p = p; letters = l; gens = g; basis = n } ≡ h = cc in
           let A = number-starts ps p ps₁ a in

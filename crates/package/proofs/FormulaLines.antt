@@ -1,4 +1,4 @@
--- A line of a formula: its fields, its bounds and what it is judged, one law for each way through a reader.
+-- A line of a formula: its fields and what it is judged, one law for each way through a reader.
 use mathlib.Core.Path.{◌≡◌, refl, sym, ap, ◌∙◌}
 use mathlib.Core.Bool.{Bool, true, false, false≢true}
 use mathlib.Core.List.{List}
@@ -7,13 +7,14 @@ use native.Mathlib.Omega.{arith}
 use lib.Dec.{ltb, eqb}
 use lib.ListN.{length, take, drop, length-drop}
 use lib.Seq.{drop-drop, length-take-le}
-use borrow.Author.Tests.{lt-ltb, le-ltb, eq-eqb, ne_eqb, ltb-true}
+use borrow.Author.Tests.{ltb-true}
+use Rattle.std.specs.Prelude.{Some}
 use Rattle.package.specs.Bounds.{coef_fits, word_fits_of}
 use Rattle.words.specs.Below.{is_below}
 use Rattle.package.specs.Formula.{TermRow, no_row, row, row_form, row_fits, row_judged, judge_row}
-use Rattle.package.specs.Held.{seen_row, reach_row}
+use Rattle.package.specs.Held.{reach_row}
 use Rattle.package.specs.declared.Limits.{Limits}
-use Rattle.package.specs.declared.RowRead.{RowRead}
+use Rattle.package.specs.declared.RowAt.{RowAt}
 use Rattle.lists.proofs.Parts.{part-part}
 use Rattle.text.specs.Field.{none, some, num_then, word_last}
 use Rattle.text.specs.Number.{number}
@@ -35,67 +36,28 @@ module _ (ps : Pieces) where
     unfolding row_form
     row-whole w b = rw (row_form, a, b)
 
--- Coefficient, word, number of terms and order.
-module _ (p letters : ℕ) (lim : Limits) (v : List ℕ) (n c : ℕ) (w : List ℕ) where
-  pub row-coef : coef_fits p c ≡ false → false ≡ row_fits p letters lim v n c w
-  unfolding row_fits
-  row-coef a = rw (row_fits, a)
-
-  module _ (a : coef_fits p c ≡ true) where
-    pub row_word : word_fits_of lim.len letters w ≡ false → false ≡ row_fits p letters lim v n c w
-    unfolding row_fits
-    row_word b = rw (row_fits, a, b)
-
-    module _ (b : word_fits_of lim.len letters w ≡ true) where
-      pub row-full : lim.terms ≤ n → false ≡ row_fits p letters lim v n c w
-      unfolding row_fits
-      row-full d = rw (row_fits, a, b, le-ltb n lim.terms d)
-
-      module _ (d : n < lim.terms) where
-        pub row_first : n ≡ 0 → true ≡ row_fits p letters lim v n c w
-        unfolding row_fits
-        row_first e = rw (row_fits, a, b, lt-ltb n lim.terms d, eq-eqb n 0 e)
-
-        pub row_below : (n ≡ 0 → ⊥) → is_below w v ≡ row_fits p letters lim v n c w
-        unfolding row_fits
-        row_below e = rw (row_fits, a, b, lt-ltb n lim.terms d, ne_eqb n 0 e)
-
 -- A line from its bytes.
-pub row_shapeless : (p letters : ℕ) (lim : Limits) (v : List ℕ) (n : ℕ) (l : List ℕ) → row_form (fields l) ≡ no_row → no_row ≡ judge_row p letters lim v n l
+pub row_shapeless : (p letters : ℕ) (lim : Limits) (v : List ℕ) (n : ℕ) (l : List ℕ) → no_row ≡ row_form (fields l) → no_row ≡ judge_row p letters lim v n l
 unfolding judge_row row_judged
-row_shapeless p letters lim v n l q = rw (judge_row, q)
+row_shapeless p letters lim v n l q = rw (judge_row, ← q)
 
 module _ (p letters : ℕ) (lim : Limits) (v : List ℕ) (n : ℕ) (s : List ℕ) (at m a k c : ℕ) (b : a + k ≤ m)
-    (q : row_form (fields (part s at m)) ≡ row c (part (part s at m) a k)) where
+    (q : row c (part (part s at m) a k) ≡ row_form (fields (part s at m))) where
   the_row : row_form (fields (part s at m)) ≡ row c (part s (at + a) k)
-  the_row = q ∙ ap (row c) (part-part (drop at s) a k m b ∙ ap (take k) (drop-drop a at s))
+  the_row = sym q ∙ ap (row c) (part-part (drop at s) a k m b ∙ ap (take k) (drop-drop a at s))
 
-  pub row-refused : row_fits p letters lim v n c (part s (at + a) k) ≡ false → no_row ≡ judge_row p letters lim v n (part s at m)
+  pub row_refused : row_fits p letters lim v n c (part s (at + a) k) ≡ false → no_row ≡ judge_row p letters lim v n (part s at m)
   unfolding judge_row row_judged
-  row-refused f = rw (judge_row, the_row, row_judged, f)
+  row_refused f = rw (judge_row, the_row, row_judged, f)
 
-  pub row-accepted : row_fits p letters lim v n c (part s (at + a) k) ≡ true → row c (part s (at + a) k) ≡ judge_row p letters lim v n (part s at m)
+  pub row_accepted : row_fits p letters lim v n c (part s (at + a) k) ≡ true → row c (part s (at + a) k) ≡ judge_row p letters lim v n (part s at m)
   unfolding judge_row row_judged
-  row-accepted f = rw (judge_row, the_row, row_judged, f)
+  row_accepted f = rw (judge_row, the_row, row_judged, f)
 
--- What an answer says of the line.
-module _ (l : List ℕ) (r : RowRead) (x : TermRow) where
-  pub seen_no_row : r ≡ RowRead.Refused → seen_row l r ≡ x → x ≡ no_row
-  unfolding seen_row
-  seen_no_row q h = sym h ∙ rw q
-
-  pub seen-row : (c a n : ℕ) → r ≡ RowRead.Row c a n → seen_row l r ≡ x → x ≡ row c (part l a n)
-  unfolding seen_row
-  seen-row c a n q h = sym h ∙ rw q
-
-pub reach-row : (r : RowRead) (c a n m : ℕ) → r ≡ RowRead.Row c a n → reach_row r ≤ m → a + n ≤ m
+-- The word of a term lies in the line.
+pub row_inside : (s : List ℕ) (at e : ℕ) (t : RowAt) → reach_row (Some t) ≤ length (take (e - at) (drop at s)) → at ≤ e → e ≤ length s → t.start + t.len ≤ e - at
 unfolding reach_row
-reach-row r c a n m q h = rw q at h
-
-pub reach-row-part : (s : List ℕ) (at e : ℕ) (r : RowRead) (c a n : ℕ) → at ≤ e → e ≤ length s → r ≡ RowRead.Row c a n → reach_row r ≤ length
-    (take (e - at) (drop at s)) → a + n ≤ e - at
-reach-row-part s at e r c a n h z q b =
-    let b' = reach-row r c a n (length (take (e - at) (drop at s))) q b in
+row_inside s at e t b h z =
     let y : e - at ≤ length (drop at s) = rw (length-drop at s) (omega arith) in
     omega (arith, length-take-le (e - at) (drop at s) y)
 

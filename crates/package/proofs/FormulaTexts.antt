@@ -52,7 +52,7 @@ module _ (ps : Pieces) (c : ℕ) (w : List ℕ) (h : row_form ps ≡ row c w) wh
 module _ (p letters : ℕ) (lim : Limits) (v : List ℕ) (n : ℕ) (l : List ℕ) (c : ℕ) (w : List ℕ) (e : judge_row p letters lim v n l ≡ row c w) where
   by_form : (f : TermRow) → row_form (fields l) ≡ f → (l ≡ write_fields (row_fields c w)) × (row_fits p letters lim v n c w ≡ true)
   unfolding judge_row row_judged
-  by_form no_row q = absurd (let z : no_row ≡ row c w = row_shapeless p letters lim v n l q ∙ e in let y : ◌≡◌ {A = ℕ} 0 1 = cc in omega arith)
+  by_form no_row q = absurd (let z : no_row ≡ row c w = row_shapeless p letters lim v n l (sym q) ∙ e in let y : ◌≡◌ {A = ℕ} 0 1 = cc in omega arith)
   by_form (row c' w') q = go (row_fits p letters lim v n c' w') refl (sym (ap (row_judged p letters lim v n) q) ∙ e)
     where
       go : (t : Bool) → row_fits p letters lim v n c' w' ≡ t → row_judged p letters lim v n (row c' w') ≡ row c w

@@ -1,5 +1,5 @@
--- The head lines and the blocks in a row: one law for each way through the reader, and what the answers of its parts say.
-use mathlib.Core.Path.{◌≡◌, sym, ap, ◌∙◌}
+-- The head lines and the blocks in a row: one law for each way through the reader.
+use mathlib.Core.Path.{◌≡◌, ap}
 use mathlib.Core.Bool.{true, false}
 use mathlib.Core.List.{List, []}
 use Prim.Native.Nat.{ℕ, ◌+◌, ◌-◌, ◌≤◌, ◌<◌}
@@ -8,75 +8,17 @@ use lib.ListN.{length, drop}
 use borrow.Author.Tests.{lt-ltb, le-ltb}
 use Rattle.package.proofs.HeadTexts.{head-lines-text}
 use Rattle.package.proofs.TermBlockTexts.{block2-text}
-use Rattle.package.specs.Answer.{Answer, refused, read, ◌then◌}
+use Rattle.package.specs.Answer.{refused, read, ◌then◌}
 use Rattle.package.specs.Head.{no_head, head, head_form, field_fits, counts_fit}
-use Rattle.package.specs.Held.{seen_names, seen_counts, seen_head_lines, held_terms, seen_terms, seen_sums}
 use Rattle.package.specs.Names.{head_names, term_names}
 use Rattle.package.specs.Package.{names_line, CountsBlock, counts_judged, counts_line, HeadBlock, first_term, first_sum, term_names_line, head_lines_of, term_block, sum_block, sized, read_with}
 use Rattle.package.specs.Sums.{sums_read, block3, sums_of}
-use Rattle.package.specs.Terms.{start, TermBlock, terms_read, block2}
-use Rattle.package.specs.declared.CountsAt.{CountsAt}
-use Rattle.package.specs.declared.CountsRead.{CountsRead}
+use Rattle.package.specs.Terms.{start, TermBlock, block2}
 use Rattle.package.specs.declared.Head.{Head}
-use Rattle.package.specs.declared.HeadAt.{HeadAt}
-use Rattle.package.specs.declared.HeadEnded.{HeadEnded}
 use Rattle.package.specs.declared.Limits.{Limits}
-use Rattle.package.specs.declared.NamesRead.{NamesRead}
-use Rattle.package.specs.declared.Refusal.{Refusal}
-use Rattle.package.specs.declared.SumsEnded.{SumsEnded}
-use Rattle.package.specs.declared.TermsAt.{TermsAt}
-use Rattle.package.specs.declared.TermsEnded.{TermsEnded}
 use Rattle.text.proofs.Cutting.{cut-more, cut-end}
 use Rattle.lists.specs.Same.{same}
 use Rattle.text.specs.Pieces.{Pieces, lines, fields, stop, part}
-
--- What the answers of the parts say.
-module _ (s : List ℕ) (n : ℕ) (r : NamesRead) (x : Answer Pieces) where
-  pub seen_other : r ≡ NamesRead.Misshapen → seen_names s n r ≡ x → x ≡ refused 2 n
-  unfolding seen_names
-  seen_other q h = sym h ∙ rw q
-
-  pub seen_next : (e : ℕ) → r ≡ NamesRead.Next e → seen_names s n r ≡ x → x ≡ read (lines (drop e s))
-  unfolding seen_names
-  seen_next e q h = sym h ∙ rw q
-
-module _ (s : List ℕ) (r : CountsRead) (x : Answer CountsBlock) where
-  pub counts-refused : (v : Refusal) → r ≡ CountsRead.Refused v → seen_counts s r ≡ x → x ≡ refused v.number v.place
-  unfolding seen_counts
-  counts-refused v q h = sym h ∙ rw q
-
-  pub counts-read : (c : CountsAt) → r ≡ CountsRead.Read c → seen_counts s r ≡ x → x ≡ read (record { head = c.head; rest = lines (drop c.at s) })
-  unfolding seen_counts
-  counts-read c q h = sym h ∙ rw q
-
-module _ (s : List ℕ) (r : HeadEnded) (x : Answer HeadBlock) where
-  pub head-refused : (v : Refusal) → r ≡ HeadEnded.Refused v → seen_head_lines s r ≡ x → x ≡ refused v.number v.place
-  unfolding seen_head_lines
-  head-refused v q h = sym h ∙ rw q
-
-  pub head_read : (b : HeadAt) → r ≡ HeadEnded.Read b → seen_head_lines s r ≡ x
-      → x ≡ read (record { head = b.head; line = b.line; rest = lines (drop b.at s) })
-  unfolding seen_head_lines
-  head_read b q h = sym h ∙ rw q
-
-module _ (h : Head) (s ks is cs os ls : List ℕ) (r : TermsEnded) (x : Answer TermBlock) where
-  pub terms-refused : (v : Refusal) → r ≡ TermsEnded.Refused v → seen_terms h s ks is cs os ls r ≡ x → x ≡ refused v.number v.place
-  unfolding seen_terms
-  terms-refused v q e = sym e ∙ rw q
-
-  pub terms-read : (t : TermsAt) → r ≡ TermsEnded.Read t → seen_terms h s ks is cs os ls r ≡ x
-      → x ≡ terms_read h (held_terms s ks is cs os ls t.terms) t.line (lines (drop t.at s))
-  unfolding seen_terms
-  terms-read t q e = sym e ∙ rw q
-
-module _ (r : SumsEnded) (x : Answer (Unit {0})) where
-  pub sums-refused : (v : Refusal) → r ≡ SumsEnded.Refused v → seen_sums r ≡ x → x ≡ refused v.number v.place
-  unfolding seen_sums
-  sums-refused v q h = sym h ∙ rw q
-
-  pub sums_sound : r ≡ SumsEnded.Sound → seen_sums r ≡ x → x ≡ sums_read
-  unfolding seen_sums
-  sums_sound q h = sym h ∙ rw q
 
 -- A names line.
 module _ (names : List ℕ) (n : ℕ) (s : List ℕ) (at e : ℕ) (q : e ≡ at + stop 10 (drop at s)) where
@@ -114,9 +56,9 @@ module _ (s : List ℕ) (at e : ℕ) (q : e ≡ at + stop 10 (drop at s)) where
         unfolding counts_line counts_judged
         counts_4 b = rw (cut-more 10 s at e q z, counts_line, m, counts_judged, a, b)
 
-        pub counts-right : counts_fit h ≡ true → read (record { head = h; rest = lines (drop (e + 1) s) }) ≡ counts_line (lines (drop at s))
+        pub counts_right : counts_fit h ≡ true → read (record { head = h; rest = lines (drop (e + 1) s) }) ≡ counts_line (lines (drop at s))
         unfolding counts_line counts_judged
-        counts-right b = rw (cut-more 10 s at e q z, counts_line, m, counts_judged, a, b)
+        counts_right b = rw (cut-more 10 s at e q z, counts_line, m, counts_judged, a, b)
 
 -- Lines 1 to 3.
 module _ (ls : Pieces) where
@@ -134,10 +76,10 @@ module _ (ls : Pieces) where
       unfolding head_lines_of term_names_line ◌then◌
       line3_refused v n g = rw (head_lines_of, e, f, term_names_line, g)
 
-      pub lines-read : (ns : Pieces) → names_line term_names 3 c.rest ≡ read ns
+      pub lines_read : (ns : Pieces) → names_line term_names 3 c.rest ≡ read ns
           → read (record { head = c.head; line = first_term; rest = ns }) ≡ head_lines_of ls
       unfolding head_lines_of term_names_line ◌then◌
-      lines-read ns g = rw (head_lines_of, e, f, term_names_line, g)
+      lines_read ns g = rw (head_lines_of, e, f, term_names_line, g)
 
 -- The whole.
 pub package_long : (lim : Limits) (s : List ℕ) → 65536 < length s → refused 1 0 ≡ read_with lim s

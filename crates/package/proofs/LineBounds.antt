@@ -7,7 +7,7 @@ use native.Mathlib.Omega.{arith}
 use lib.Dec.{ltb, eqb}
 use lib.ListN.{length}
 use borrow.Author.Tests.{ltb-true, ltb-false}
-use Rattle.package.proofs.CountsLine.{counts-bounds}
+use Rattle.package.proofs.CountsLine.{counts_bounds}
 use Rattle.package.specs.Bounds.{coef_fits, word_fits_of}
 use Rattle.package.specs.Head.{field_fits, counts_fit}
 use Rattle.package.specs.Names.{term_g, sum_b}
@@ -28,7 +28,7 @@ pub record HeadBounds (h : Head) : Type 0 where
 
 pub head-bounds : (h : Head) → field_fits h.p ≡ true → counts_fit h ≡ true → HeadBounds h
 head-bounds h a b =
-    let c = counts-bounds h b in
+    let c = counts_bounds h b in
     record { most = means_most h.p ((fits_iff h.p).0 a); letters = c.0; gens = c.1; basis = c.2 }
 
 -- Coefficients and words in bounds.

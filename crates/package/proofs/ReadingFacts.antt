@@ -1,4 +1,4 @@
--- What a caller of `read_package` knows when the answer is `Whole`: the package is readable, its counts are in bounds, and the slices hold the terms of each item.
+-- What a caller of `read_package` knows when the answer is `Ok`: the package is readable, its counts are in bounds, and the slices hold the terms of each item.
 use mathlib.Core.Path.{◌≡◌, sym, ap, ◌∙◌}
 use mathlib.Core.Bool.{true}
 use mathlib.Core.List.{List, [], ◌∷◌, ◌++◌}
@@ -7,6 +7,7 @@ use native.Mathlib.Omega.{arith}
 use native.Mathlib.Decide.{ℕ_discrete}
 use lib.ListN.{length, get_or, take, drop, get_or-append}
 use lib.Seq.{get_or_at}
+use Rattle.std.specs.Prelude.{Ok}
 use Rattle.package.proofs.ItemRuns.{slot-most, item-run}
 use Rattle.package.proofs.ItemStarts.{slots_kept}
 use Rattle.package.proofs.LineBounds.{HeadBounds, head-bounds}
@@ -20,7 +21,6 @@ use Rattle.package.specs.Readable.{Readable}
 use Rattle.package.specs.Sums.{sums_of}
 use Rattle.package.specs.Terms.{TermLine, items_of}
 use Rattle.package.specs.declared.Head.{Head}
-use Rattle.package.specs.declared.Reading.{Reading}
 use Rattle.text.specs.Bytes.{within}
 use Rattle.text.specs.Pieces.{lines}
 
@@ -45,7 +45,7 @@ module _ (s ks is cs os ls : List ℕ) (h : Head) (m at n : ℕ) where
   abbrev pub whole_package : Package
   whole_package = record { head = h; terms = held_terms s ks is cs os ls m; sums = sums_of n (lines (drop at s)) }
 
-  module _ (e : seen_all s ks is cs os ls (Reading.Whole h m at n) ≡ read_package s) where
+  module _ (e : seen_all s ks is cs os ls (Ok (record { head = h; terms = m; at = at; line = n })) ≡ read_package s) where
     pub whole-readable : Readable whole_package
     unfolding seen_all
     whole-readable = (reads-written whole_package s (sym e)).0

@@ -16,7 +16,7 @@ use Rattle.text.specs.Field.{Got, none, some, num_then, GotWord, none_word, some
 use Rattle.text.specs.Number.{number, write_number}
 use Rattle.text.specs.Pieces.{Pieces, piece, fields, write_fields, Without, empty, apart, Clear, clear, clears}
 use Rattle.text.specs.Word.{WordField, no_word, word, write_word}
-use Rattle.text.specs.declared.Num.TheVariants.{Value}
+use Rattle.std.specs.Prelude.{Some}
 
 -- The text of a sum line.
 pub record SumText (ps : Pieces) (k i c : ℕ) (l : List ℕ) (o : ℕ) (r : List ℕ) : Type 0 where
@@ -93,7 +93,7 @@ module _ (ps : Pieces) (k i c : ℕ) (l : List ℕ) (o : ℕ) (r : List ℕ) (h 
   sum-text = by_kind (num_then (rank sum_kinds) ps) refl
 
 -- The kinds of block 3.
-pub known_kind : (k : ℕ) → (sum_b ≤ k) × (k ≤ sum_o) → rank sum_kinds (write_kind sum_kinds k) ≡ Value k
+pub known_kind : (k : ℕ) → (sum_b ≤ k) × (k ≤ sum_o) → rank sum_kinds (write_kind sum_kinds k) ≡ Some k
 unfolding rank rank_from write_kind
 known_kind zero b = absurd (omega arith)
 known_kind (suc zero) b = refl

@@ -48,7 +48,7 @@ module _ (h : Head) (lim : Limits) (a : LineAbove) (n : ℕ) (l : List ℕ) (k i
         (sym (joined-pieces 32 l) ∙ ap write_fields t.cut, record { ranked = t.ranked; fits = f; order = o; room = r })
 
   by_form : (f : TermForm) → term_form (fields l) ≡ f → Accepted
-  by_form no_term q = absurd (refused_not 2 (judge_2 h lim a n l q))
+  by_form no_term q = absurd (refused_not 2 (judge_2 h lim a n l (sym q)))
   by_form (term k' i' c' w') q = by_tests k' i' c' w' q (term_fits h lim k' i' c' w') (follows a k' i' w') (has_room lim a n k' i') refl refl refl
 
   pub accepted : Accepted

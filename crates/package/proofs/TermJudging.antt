@@ -1,5 +1,5 @@
--- What a term line is judged: one law for each of refusals 2, 5, 6, 7 and for a line in order, and that a line in order had room.
-use mathlib.Core.Path.{◌≡◌, refl, sym, ap, ◌∙◌}
+-- What a term line is judged, and that a line in order had room.
+use mathlib.Core.Path.{◌≡◌, refl, ap, ◌∙◌}
 use mathlib.Core.Bool.{Bool, true, false}
 use mathlib.Core.List.{List, []}
 use Prim.Native.Nat.{ℕ, ◌+◌, ◌≤◌, ◌<◌}
@@ -7,13 +7,12 @@ use native.Mathlib.Omega.{arith}
 use lib.Dec.{ltb}
 use lib.ListN.{take, drop}
 use lib.Seq.{drop-drop}
-use borrow.Author.Tests.{lt-ltb, le-ltb, ltb-true, ltb-false}
-use Rattle.package.specs.Held.{seen_judged, reach_judged, above_of}
+use borrow.Author.Tests.{le-ltb, lt-ltb, ltb-false, ltb-true}
+use Rattle.package.specs.Held.{above_of}
 use Rattle.package.specs.Terms.{TermForm, no_term, term, term_form, term_fits, LineAbove, follows, counted, has_room, TermVerdict, refused_by, accept, judged, judge_term}
 use Rattle.package.specs.declared.Head.{Head}
 use Rattle.package.specs.declared.Last.{Last}
 use Rattle.package.specs.declared.Limits.{Limits}
-use Rattle.package.specs.declared.TermJudged.{TermJudged}
 use Rattle.lists.proofs.Parts.{part-part}
 use Rattle.text.specs.Pieces.{pieces, fields, part}
 
@@ -33,14 +32,6 @@ module _ (h : Head) (lim : Limits) (a : LineAbove) (n k i c : ℕ) (w : List ℕ
       unfolding judged
       by_room t r = rw (judged, p, q, r)
 
-      pub judge_7_item : lim.terms < counted a k i → refused_by 7 ≡ judged h lim a n (term k i c w)
-      unfolding has_room
-      judge_7_item r = by_room false (rw (has_room, lt-ltb lim.terms (counted a k i) r))
-
-      pub judge_7_total : counted a k i ≤ lim.terms → 1024 ≤ n → refused_by 7 ≡ judged h lim a n (term k i c w)
-      unfolding has_room
-      judge_7_total r z = by_room false (rw (has_room, le-ltb lim.terms (counted a k i) r, le-ltb n 1024 z))
-
       pub judge_0 : counted a k i ≤ lim.terms → n < 1024 → accept k i c w ≡ judged h lim a n (term k i c w)
       unfolding has_room
       judge_0 r z = by_room true (rw (has_room, le-ltb lim.terms (counted a k i) r, lt-ltb n 1024 z))
@@ -51,31 +42,17 @@ unfolding counted
 counted-word s last k i = refl
 
 -- A line from its bytes.
-pub judge_2 : (h : Head) (lim : Limits) (a : LineAbove) (n : ℕ) (l : List ℕ) → term_form (fields l) ≡ no_term → refused_by 2 ≡ judge_term h lim a n l
+pub judge_2 : (h : Head) (lim : Limits) (a : LineAbove) (n : ℕ) (l : List ℕ) → no_term ≡ term_form (fields l) → refused_by 2 ≡ judge_term h lim a n l
 unfolding judge_term judged
-judge_2 h lim a n l q = rw (judge_term, q)
+judge_2 h lim a n l q = rw (judge_term, ← q)
 
-pub judge_read : (h : Head) (lim : Limits) (ab : LineAbove) (t : ℕ) (s : List ℕ) (at m k i c a n : ℕ) → a + n ≤ m → term_form
-    (fields (part s at m)) ≡ term k i c (part (part s at m) a n)
+pub judge_read : (h : Head) (lim : Limits) (ab : LineAbove) (t : ℕ) (s : List ℕ) (at m k i c a n : ℕ) → a + n ≤ m
+    → term k i c (part (part s at m) a n) ≡ term_form (fields (part s at m))
     → judged h lim ab t (term k i c (part s (at + a) n)) ≡ judge_term h lim ab t (part s at m)
 unfolding judge_term
 judge_read h lim ab t s at m k i c a n b q =
     let z : part (part s at m) a n ≡ part s (at + a) n = part-part (drop at s) a n m b ∙ ap (take n) (drop-drop a at s) in
-    rw (judge_term, q, z)
-
--- What an answer says of the line.
-module _ (s : List ℕ) (r : TermJudged) (x : TermVerdict) where
-  pub seen-refused : (v : ℕ) → r ≡ TermJudged.Refused v → seen_judged s r ≡ x → x ≡ refused_by v
-  unfolding seen_judged
-  seen-refused v q h = sym h ∙ rw q
-
-  pub seen-accepted : (k i c a n : ℕ) → r ≡ TermJudged.Accepted k i c a n → seen_judged s r ≡ x → x ≡ accept k i c (part s a n)
-  unfolding seen_judged
-  seen-accepted k i c a n q h = sym h ∙ rw q
-
-pub reach-judged : (r : TermJudged) (k i c a n m : ℕ) → r ≡ TermJudged.Accepted k i c a n → reach_judged r ≤ m → a + n ≤ m
-unfolding reach_judged
-reach-judged r k i c a n m q h = rw q at h
+    rw (judge_term, ← q, z)
 
 -- A line in order had room.
 room : (lim : Limits) (a : LineAbove) (n k i : ℕ) → has_room lim a n k i ≡ true → (n < 1024) × (counted a k i ≤ lim.terms)

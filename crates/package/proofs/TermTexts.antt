@@ -19,7 +19,7 @@ use Rattle.text.specs.Field.{Got, none, some, num_then, word_last, rank_from, ra
 use Rattle.text.specs.Number.{number, write_number}
 use Rattle.text.specs.Pieces.{Pieces, piece, onto, pieces, fields, write_fields, Without, empty, apart, Clear, clear, clears}
 use Rattle.text.specs.Word.{WordField, no_word, word}
-use Rattle.text.specs.declared.Num.TheVariants.{Value}
+use Rattle.std.specs.Prelude.{Some}
 
 -- The text of a term line.
 pub record TermText (ps : Pieces) (k i c : ℕ) (w : List ℕ) : Type 0 where
@@ -74,7 +74,7 @@ module _ (ps : Pieces) (k i c : ℕ) (w : List ℕ) (h : term_form ps ≡ term k
   term-text = by_kind (num_then (rank term_kinds) ps) refl
 
 -- The kinds of block 2.
-term-kind : (k : ℕ) → (term_g ≤ k) × (k ≤ term_b) → rank term_kinds (write_kind term_kinds k) ≡ Value k
+term-kind : (k : ℕ) → (term_g ≤ k) × (k ≤ term_b) → rank term_kinds (write_kind term_kinds k) ≡ Some k
 unfolding rank rank_from write_kind
 term-kind zero b = absurd (omega arith)
 term-kind (suc zero) b = refl

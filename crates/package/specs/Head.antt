@@ -6,7 +6,7 @@ use Rattle.text.specs.Bytes.{within}
 use Rattle.text.specs.Field.{none, some, num_then, num_last}
 use Rattle.text.specs.Number.{number}
 use Rattle.text.specs.Pieces.{Pieces}
-use Rattle.text.specs.declared.Num.TheVariants.{Misshapen, Value}
+use Rattle.std.specs.Prelude.{None, Some}
 
 -- What a line says as the value line of block 1.
 pub data HeadForm : Type 0 where
@@ -22,7 +22,7 @@ head_form ps = elim (num_then number ps) [
     | none ↦ no_head
     | some l ps₂ ↦ elim (num_then number ps₂) [
       | none ↦ no_head
-      | some g ps₃ ↦ elim (num_last ps₃) [ Misshapen ↦ no_head | Value b ↦ head (record { p = p; letters = l; gens = g; basis = b }) ]
+      | some g ps₃ ↦ elim (num_last ps₃) [ None ↦ no_head | Some b ↦ head (record { p = p; letters = l; gens = g; basis = b }) ]
     ]
   ]
 ]

@@ -5,11 +5,11 @@ use native.Mathlib.Decide.{dec_lt}
 use native.Mathlib.Omega.{arith}
 use lib.ListN.{length}
 use borrow.Author.Tests.{lt-ltb, le-ltb}
-use Rattle.words.specs.declared.Comparison.TheVariants.{Above}
+use Rattle.std.specs.declared.cmp.Ordering.TheVariants.{Greater}
 use Rattle.words.specs.Word.{Word}
 use Rattle.words.specs.Order.{Lt, by_number_of, word_order}
 
-longer_above : (u v : Word) → length v < length u → word_order u v ≡ Above
+longer_above : (u v : Word) → length v < length u → word_order u v ≡ Greater
 unfolding word_order by_number_of
 longer_above u v h = let k : length v ≤ length u = omega arith in rw (word_order, by_number_of, le-ltb (length u) (length v) k, lt-ltb (length v) (length u) h)
 

@@ -18,31 +18,38 @@ use Rattle.algebra.specs.Steps.{take_away, line_at, stepped}
 use Rattle.algebra.proofs.Spots.{spot-found}
 use Rattle.packedsteps.proofs.NotLonger.{below_length}
 use Rattle.table.specs.Table.{prime_in, gens_in, basis_count_in, field_in, order_in, inverse_in, first_in, size_in, blocks_in}
-use Rattle.table.specs.Words.{word_of, Sixfold}
+use Rattle.table.specs.Words.{Sixfold}
 use Rattle.table.specs.Polynomials.{word_in, polynomial_in, basis_in}
 use Rattle.table.specs.Tabled.{Tabled}
-use Rattle.packedterms.specs.Formula.{blocks_at, Working}
-use Rattle.packedterms.proofs.Places.{term-place}
+use Rattle.packedterms.specs.declared.PackedWord.{PackedWord}
+use Rattle.packedterms.specs.declared.WorkingFormula.{WorkingFormula}
+use Rattle.packedterms.specs.Formula.{blocks_at}
+use Rattle.packedterms.specs.InFormula.{term_in, WorkingIn, letters_in}
+use Rattle.packedterms.proofs.Places.{term-place, coef-small}
 use Rattle.itemadding.specs.Fits.{Fits}
 use Rattle.itemadding.specs.LeadPlace.{LeadPlace}
 use Rattle.packedsteps.specs.Cuts.{CutAt}
 use Rattle.packedsteps.specs.Lines.{LineTaken}
-use Rattle.packedsteps.specs.declared.Cut.{Cut}
 use Rattle.table.proofs.FallingWords.{item_falls}
 use Rattle.table.proofs.Inverses.{divided-back}
 use Rattle.table.proofs.WordSizes.{word_size}
 use Rattle.table.proofs.LeadingTerms.{LeadTerm}
 
 -- The six blocks of a term's place hold its word.
-pub term-held : (t c l w o : List ℕ) (n : ℕ) → Working t c l w o n → (k : ℕ) → k < n → Sixfold t (get_or l (get_or o k 0) 0) (blocks_at w (get_or o k 0))
-term-held t c l w o n W k h =
-    let s = get_or o k 0 in
-    let inside = term-place t c l w o n W.holds k h in
+pub term-held : (t : List ℕ) (f : WorkingFormula) → WorkingIn t f → (k : ℕ) → k < f.terms
+    → Sixfold t (get_or f.sizes (get_or f.places k 0) 0) (blocks_at f.blocks (get_or f.places k 0))
+term-held t f W k h =
+    let s = get_or f.places k 0 in
+    let inside = term-place t f.coefs f.sizes f.blocks f.places f.terms W.holds k h in
     let room = W.holds.room.blocks in
-    let six = part_length (s * 6) 6 w (omega arith) in
+    let six = part_length (s * 6) 6 f.blocks (omega arith) in
     let held = W.holds.held k h in
     let fits = held.packs.fits in
     record { six = six; short = omega (arith, six); held = held }
+
+-- Its coefficient is an element.
+pub coef_held : (t : List ℕ) (f : WorkingFormula) → WorkingIn t f → (k : ℕ) → k < f.terms → (term_in t f k).coef < prime_in t
+coef_held t f = coef-small t f.coefs f.sizes f.blocks f.places f.terms
 
 -- No word of a basis polynomial is longer than its leading word.
 module _ (t : List ℕ) (T : Tabled t) (g : ℕ) (L : LeadTerm t g) where
@@ -64,8 +71,8 @@ module _ (t : List ℕ) (T : Tabled t) (g : ℕ) (L : LeadTerm t g) where
           omega (arith, size i, size (first_in t (gens_in t + g)))
 
   -- So the products of a step fit where the word that is cut did.
-  pub step_fits : {v : Word} {z i : ℕ} {r : Cut} {left right : List ℕ} → CutAt t v z i g r left right → z % 256 ≤ 72
-      → Fits t r.left r.right (first_in t (gens_in t + g)) (first_in t (suc (gens_in t + g)))
+  pub step_fits : {v : Word} {z i r : ℕ} {left right : PackedWord 6} → CutAt t v z i g r left right → z % 256 ≤ 72
+      → Fits t left.size right.size (first_in t (gens_in t + g)) (first_in t (suc (gens_in t + g)))
   step_fits C short = record { short = λ i lo hi. let e = C.letters in let m = none_longer i lo hi in omega arith }
 
 -- x divided by the leading coefficient of basis polynomial g.
@@ -86,11 +93,11 @@ module _ (t : List ℕ) (T : Tabled t) (x g : ℕ) where
   divided_one small lo hi one =
       sym (ap ((field_in t).mul x) (sym (inverse_of lo hi) ∙ one) ∙ T.field.mul_one x ∙ T.field.red_elem x (element_of (prime_in t) small))
 
-module _ (t : List ℕ) (u : Term) (z i g : ℕ) (r : Cut) (left right : List ℕ) (C : CutAt t u.word z i g r left right)
+module _ (t : List ℕ) (u : Term) (z i g r : ℕ) (left right : PackedWord 6) (C : CutAt t u.word z i g r left right)
     (found_at : spot (basis_in t) u.word ≡ found i g) where
   -- The term is (coefficient of the line) × left × leading term × right.
   pub step-place : Tabled t → u.coef < prime_in t → family (basis_in t) g ≡ polynomial_in t (gens_in t + g)
-      → LeadPlace (field_in t) (divided t u.coef g) (word_of t r.left left) (word_of t r.right right) (polynomial_in t (gens_in t + g)) u
+      → LeadPlace (field_in t) (divided t u.coef g) (letters_in t left) (letters_in t right) (polynomial_in t (gens_in t + g)) u
   step-place T small e =
       let at = spot-found (basis_in t) u.word i g found_at in
       record {
@@ -99,7 +106,7 @@ module _ (t : List ℕ) (u : Term) (z i g : ℕ) (r : Cut) (left right : List �
         coef = rw (← e) (divided-back t T g u.coef at.0 small);
       }
 
-  pub step_line : LineTaken t u i g (divided t u.coef g) r.left left r.right right
+  pub step_line : LineTaken t u i g (divided t u.coef g) left right
   unfolding line_at
   step_line = record {
     left-held = C.left-held;
@@ -109,7 +116,7 @@ module _ (t : List ℕ) (u : Term) (z i g : ℕ) (r : Cut) (left right : List �
 
   pub step_sum : (f : Poly) → family (basis_in t) g ≡ polynomial_in t (gens_in t + g)
       → plus (field_in t) (order_in t) f
-      (scale (field_in t) ((field_in t).neg (divided t u.coef g)) (shift (word_of t r.left left) (word_of t r.right right) (polynomial_in t (gens_in t + g))))
+      (scale (field_in t) ((field_in t).neg (divided t u.coef g)) (shift (letters_in t left) (letters_in t right) (polynomial_in t (gens_in t + g))))
       ≡ stepped (field_in t) (order_in t) (basis_in t) f u i g
   unfolding stepped take_away line_at
   step_sum f p = rw (C.left_word, C.right-word, ← p)

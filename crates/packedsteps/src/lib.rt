@@ -10,55 +10,24 @@ pub mod search;
 pub mod step;
 
 // Where a step applies: the term's number, the leftmost place of a leading word in its word, and the number, from 1, of the polynomial that it
-// leads; or nowhere.
+// leads.
 #[derive(Clone, Copy)]
-pub enum Next {
-    Reduced,
-    Reducible {
-        term: usize,
-        place: usize,
-        number: usize,
-    },
+pub struct Target {
+    pub term: usize,
+    pub place: usize,
+    pub number: usize,
 }
 
-// A word cut at a leading word: the item that the leading word leads, and the sizes of what stands left and right of it.
+// One step of a run: where it was made, and the coefficient of the line that was taken away.
 #[derive(Clone, Copy)]
-pub struct Cut {
-    pub item: usize,
-    pub left: usize,
-    pub right: usize,
-}
-
-// A step that was made: how many terms there then are, the coefficient of the line that was taken away, and the sizes of its words.
-#[derive(Clone, Copy)]
-pub struct Stepped {
-    pub terms: usize,
+pub struct Advanced {
+    pub target: Target,
     pub coef: u32,
-    pub left: usize,
-    pub right: usize,
 }
 
-// One step of a run: nothing is left to be done; the budget is spent; the step leaves over 512 terms; or it was made at a term, with the polynomial
-// of a number, and leaves so many terms. The line taken away has the coefficient, and words of the sizes left and right.
+// Why a run ends without a short form: the step of this number leaves over 512 terms; or a step applies, and the budget is spent.
 #[derive(Clone, Copy)]
-pub enum Advanced {
-    Reduced,
-    Spent,
-    Over,
-    Stepped {
-        terms: usize,
-        term: usize,
-        number: usize,
-        coef: u32,
-        left: usize,
-        right: usize,
-    },
-}
-
-// How running ends: with an answer of so many terms after so many steps; with a step that leaves over 512 terms; or with the budget spent.
-#[derive(Clone, Copy)]
-pub enum Ran {
-    Answer { terms: usize, steps: u32 },
+pub enum Stop {
     Over { step: u32 },
     Spent,
 }

@@ -4,16 +4,16 @@ use mathlib.Core.Bool.{Bool, true, false, true≢false}
 use Prim.Native.Nat.{ℕ, ◌+◌, ◌≤◌, ◌<◌}
 use native.Mathlib.Decide.{dec_lt}
 use native.Mathlib.Omega.{arith}
-use Rattle.words.specs.declared.Comparison.{Comparison}
-use Rattle.words.specs.declared.Comparison.TheVariants.{Below, Equal, Above}
+use Rattle.std.specs.declared.cmp.Ordering.{Ordering}
+use Rattle.std.specs.declared.cmp.Ordering.TheVariants.{Less, Equal, Greater}
 use Rattle.lists.proofs.Entries.{below_next}
 use Rattle.packedterms.specs.Finding.{Sinking, BelowFirst, Belonging}
 
-module _ (S : ℕ → Comparison) (n : ℕ) where
+module _ (S : ℕ → Ordering) (n : ℕ) where
   -- q is the answer for word m
-  module _ (s : Sinking S n) (m : ℕ) (h : m < n) {q : Comparison} (answer : q ≡ S m) where
-    pub below_all : q ≡ Below → (i : ℕ) → i < m + 1 → S i ≡ Below
-    below_all e = below_next (λ (i : ℕ). S i ≡ Below) m (λ i r. s.under-below i m r h (sym answer ∙ e)) (sym answer ∙ e)
+  module _ (s : Sinking S n) (m : ℕ) (h : m < n) {q : Ordering} (answer : q ≡ S m) where
+    pub below_all : q ≡ Less → (i : ℕ) → i < m + 1 → S i ≡ Less
+    below_all e = below_next (λ (i : ℕ). S i ≡ Less) m (λ i r. s.under-below i m r h (sym answer ∙ e)) (sym answer ∙ e)
 
     pub belonging_equal : q ≡ Equal → Belonging S n m true
     belonging_equal e = record {
@@ -24,7 +24,7 @@ module _ (S : ℕ → Comparison) (n : ℕ) where
     }
 
   -- no word is left between those that are above and those that are below
-  pub belonging_new : (lo hi : ℕ) → lo ≡ hi → hi ≤ n → ((i : ℕ) → i < lo → S i ≡ Below) → (hi < n → S hi ≡ Above)
+  pub belonging_new : (lo hi : ℕ) → lo ≡ hi → hi ≤ n → ((i : ℕ) → i < lo → S i ≡ Less) → (hi < n → S hi ≡ Greater)
       → Belonging S n lo false
   belonging_new lo hi e h b a = record {
     low = omega arith;

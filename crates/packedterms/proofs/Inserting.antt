@@ -6,7 +6,7 @@ use mathlib.Core.List.{List}
 use Prim.Native.Nat.{ℕ, ◌<◌}
 use native.Mathlib.Omega.{arith}
 use Rattle.field.proofs.Fields.{element_of}
-use Rattle.words.specs.declared.Comparison.TheVariants.{Above}
+use Rattle.std.specs.declared.cmp.Ordering.TheVariants.{Greater}
 use Rattle.words.specs.Order.{Lt}
 use Rattle.algebra.specs.Poly.{Term, Poly}
 use Rattle.algebra.specs.Written.{insert}
@@ -53,7 +53,7 @@ module _ (t : List ℕ) (tabled : Tabled t) (x e : ℕ) (small : x < prime_in t)
       d ∙ sym (insert-equal (field_in t) (order_in t) term F n k above h (sym (is k h) ∙ q))
 
   module _ (p : present ≡ false) where
-    next : k < n → order_in t (word_of t e v) (F k).word ≡ Above
+    next : k < n → order_in t (word_of t e v) (F k).word ≡ Greater
     next h = sym (is k h) ∙ found.new p h
 
     pub before_inserted : {g : Poly} → x ≢ 0 → g ≡ before F n k x (word_of t e v) → g ≡ inserted

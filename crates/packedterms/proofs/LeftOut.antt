@@ -10,8 +10,8 @@ use lib.ListN.{length}
 use Rattle.field.specs.Field.{Operations}
 use Rattle.lists.specs.All.{All, ◌also◌}
 use Rattle.lists.proofs.Every.{all_append, all_split}
-use Rattle.words.specs.declared.Comparison.{Comparison}
-use Rattle.words.specs.declared.Comparison.TheVariants.{Below}
+use Rattle.std.specs.declared.cmp.Ordering.{Ordering}
+use Rattle.std.specs.declared.cmp.Ordering.TheVariants.{Less}
 use Rattle.words.specs.Order.{Order}
 use Rattle.algebra.specs.Poly.{Term, Poly}
 use Rattle.algebra.specs.Written.{Written}
@@ -69,7 +69,7 @@ module _ (t c l w o : List ℕ) (n k : ℕ) (h : k < n) (o' : List ℕ) (mv : Mo
 
   -- a word that is below the first k + 1 words
   module _ (v : List ℕ) (e : ℕ) (first : BelowFirst (standing v e l w o) (k + 1) n) where
-    abbrev S : ℕ → Comparison
+    abbrev S : ℕ → Ordering
     S = standing v e l w o
 
     moved : (i : ℕ) → standing v e l w o' i ≡ S (rotated_left k (n - 1) i)
@@ -94,6 +94,6 @@ module _ (t c l w o : List ℕ) (n k : ℕ) (h : k < n) (o' : List ℕ) (mv : Mo
           new = λ p q. at (omega arith) ∙ b.new p (omega arith);
         }
       where
-        go : (i : ℕ) → i < j - 1 → Dec (i < k) → standing v e l w o' i ≡ Below
+        go : (i : ℕ) → i < j - 1 → Dec (i < k) → standing v e l w o' i ≡ Less
         go i q (yes r) = low i r ∙ b.below i (omega arith)
         go i q (no r) = let most = b.low in high i (omega arith) (omega arith) ∙ b.below (i + 1) (omega arith)

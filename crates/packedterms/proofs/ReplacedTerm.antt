@@ -23,10 +23,11 @@ use Rattle.packedterms.proofs.Halving.{index_from}
 use Rattle.packedterms.proofs.Inserting.{onto_inserted, before_inserted, zero_inserted, added_behind}
 use Rattle.packedterms.proofs.LeftOut.{left-out-formula, left-out-working, left-out_belonging}
 use Rattle.packedterms.proofs.NewTerm.{before-holds, before-formula}
+use Rattle.packedterms.proofs.Sinks.{below-first}
 use Rattle.packedterms.proofs.SameWord.{onto-holds, onto-formula}
 
 module _ (t : List ℕ) (tabled : Tabled t) (x e : ℕ) (small : x < prime_in t) (v : List ℕ) (b : Built t e v) (c l w o : List ℕ) (n k : ℕ)
-    (f : Working t c l w o n) (h : k < n) (first : BelowFirst (standing v e l w o) (k + 1) n)
+    (f : Working t c l w o n) (h : k < n) (behind : Behind (order_in t) (word_of t e v) (k + 1) (formula t c l w o n))
     (j : ℕ) {present : Bool} (found : Belonging (standing v e l w o) n j present) where
   -- what the arrays then hold, in r terms
   abbrev pub Replaced : List ℕ → List ℕ → List ℕ → List ℕ → ℕ → Type 0
@@ -34,6 +35,9 @@ module _ (t : List ℕ) (tabled : Tabled t) (x e : ℕ) (small : x < prime_in t)
       ((r ≤ n) × Holds t c' l' w' o' r)
       × ((formula t c' l' w' o' r ≡ insert (field_in t) (order_in t) (single x (word_of t e v)) (without (term_at t c l w o) n k))
       × Behind (order_in t) (word_of t e v) (j - 1) (formula t c' l' w' o' r))
+
+  first : BelowFirst (standing v e l w o) (k + 1) n
+  first = below-first t tabled.suits e v b c l w o n f (k + 1) behind
 
   pub from : k + 1 ≤ j
   from = index_from (standing v e l w o) n first found

@@ -6,8 +6,8 @@ use native.Mathlib.Omega.{arith}
 use lib.ListN.{get_or, drop}
 use Rattle.lists.proofs.Parts.{part_length}
 use Rattle.words.specs.Word.{Word}
-use Rattle.words.specs.declared.Comparison.{Comparison}
-use Rattle.words.specs.declared.Comparison.TheVariants.{Below, Equal}
+use Rattle.std.specs.declared.cmp.Ordering.{Ordering}
+use Rattle.std.specs.declared.cmp.Ordering.TheVariants.{Less, Equal}
 use Rattle.table.specs.Table.{order_in}
 use Rattle.table.specs.Words.{word_of, Suits, Built}
 use Rattle.packedterms.specs.Behind.{Behind}
@@ -18,7 +18,7 @@ use Rattle.packedterms.proofs.BuiltWords.{built-few, built-compares}
 use Rattle.packedterms.proofs.Places.{term-place, place_inside, words_fall}
 
 module _ (t : List ℕ) (suits : Suits t) (e : ℕ) (v : List ℕ) (b : Built t e v) (c l w o : List ℕ) (n : ℕ) (f : Working t c l w o n) where
-  abbrev S : ℕ → Comparison
+  abbrev S : ℕ → Ordering
   S = standing v e l w o
 
   abbrev word : ℕ → Word
@@ -30,12 +30,12 @@ module _ (t : List ℕ) (suits : Suits t) (e : ℕ) (v : List ℕ) (b : Built t 
       let six = part_length (get_or o i 0 * 6) 6 w (place_inside t c l w o n f.holds i (omega arith)) in
       built-compares t e v b suits (get_or l (get_or o i 0) 0) (drop (get_or o i 0 * 6) w) six (f.holds.held i h)
 
-  under-below : (i j : ℕ) → i < j → j < n → S j ≡ Below → S i ≡ Below
+  under-below : (i j : ℕ) → i < j → j < n → S j ≡ Less → S i ≡ Less
   under-below i j h k d =
       standing_is i (omega arith)
       ∙ suits.admissible.trans (word_of t e v) (word j) (word i) (sym (standing_is j k) ∙ d) (words_fall t c l w o n f i j h k)
 
-  under-equal : (i j : ℕ) → i < j → j < n → S j ≡ Equal → S i ≡ Below
+  under-equal : (i j : ℕ) → i < j → j < n → S j ≡ Equal → S i ≡ Less
   under-equal i j h k d =
       let same : word_of t e v ≡ word j = suits.admissible.equal (word_of t e v) (word j) (sym (standing_is j k) ∙ d) in
       standing_is i (omega arith) ∙ rw same (words_fall t c l w o n f i j h k)

@@ -3,3 +3,4 @@ pub mod Formula
 pub mod Finding
 pub mod Behind
 pub mod Change
+pub mod InFormula

@@ -5,56 +5,42 @@ ghost use Rattle.algebra.specs.Written.{insert};
 ghost use Rattle.working.specs.Change.{single, without};
 ghost use Rattle.table.specs.Table.{prime_in, field_in, order_in};
 ghost use Rattle.table.specs.Tabled.{Tabled};
-ghost use Rattle.table.specs.Words.{word_of, Built};
 ghost use Rattle.packedterms.specs.Behind.{Behind};
-ghost use Rattle.packedterms.specs.Formula.{term_at, formula, Holds, Working};
+ghost use Rattle.packedterms.specs.InFormula.{term_in, formula_in, HoldsIn, WorkingIn, letters_in, BuiltIn};
 
-use crate::Added;
-use crate::search::find;
-use crate::term::{add_onto, put_last};
+use crate::{PackedWord, WorkingFormula};
 use table::Table;
-use working::entries::rotate_left;
 
-// Takes term k of n away and adds a term whose word is below that of term k: the coefficient x, and the word of size e in v. Where no other term has
-// that word, the new term gets the place of term k, and only the entries between the two move.
-pub fn replace_term(
-    t: &Table,
-    x: u32,
-    v: &[u64; 9],
-    e: usize,
-    c: &mut [u32; 560],
-    l: &mut [u32; 560],
-    w: &mut [u64; 3360],
-    o: &mut [u16; 560],
-    n: usize,
-    k: usize,
-) -> Added
-    requires tabled { Tabled t.now × (x < prime_in t.now) × (k < n) × Built t.now e v.now }
-    requires working { Working t.now c.old l.old w.old o.old n }
-    requires behind { Behind (order_in t.now) (word_of t.now e v.now) (k + 1) (formula t.now c.old l.old w.old o.old n) }
-    ensures terms_le_n { (result.terms ≤ n) × Holds t.now c.new l.new w.new o.new result.terms }
-    ensures terms_after { formula t.now c.new l.new w.new o.new result.terms
-        ≡ insert (field_in t.now) (order_in t.now) (single x (word_of t.now e v.now))
-        (without (term_at t.now c.old l.old w.old o.old) n k) }
-    ensures behind_2 { Behind (order_in t.now) (word_of t.now e v.now) result.at
-        (formula t.now c.new l.new w.new o.new result.terms) }
-{
-    let f = find(v, e, l, w, o, k + 1, n);
-    let at = f.index - 1;
-    let last = n - 1;
-    if f.present {
-        rotate_left(o, k, last);
-        let r = add_onto(t, x, c, o, last, at);
-        return Added { terms: r, at: at };
+impl WorkingFormula {
+    // Takes term k away and adds a term whose word is below that of term k: the coefficient x and the word. Where no other term has that word, the new
+    // term gets the place of term k, and only the entries between the two move. The answer is how many terms come before the new one's word.
+    pub fn replace_term(&mut self, t: &Table, x: u32, word: &PackedWord<9>, k: usize) -> usize
+        requires tabled { Tabled t.now × (x < prime_in t.now) × (k < self.old.terms) × BuiltIn t.now word.now }
+        requires working { WorkingIn t.now self.old }
+        requires behind { Behind (order_in t.now) (letters_in t.now word.now) (k + 1) (formula_in t.now self.old) }
+        ensures holds { (self.new.terms ≤ self.old.terms) × HoldsIn t.now self.new }
+        ensures replaced { formula_in t.now self.new
+            ≡ insert (field_in t.now) (order_in t.now) (single x (letters_in t.now word.now))
+            (without (term_in t.now self.old) self.old.terms k) }
+        ensures behind_2 { Behind (order_in t.now) (letters_in t.now word.now) result (formula_in t.now self.new) }
+    {
+        match self.find(word, k + 1) {
+            Ok(i) => {
+                let at = i - 1;
+                self.drop_term(k);
+                self.add_onto(t, x, at);
+                at
+            }
+            Err(i) => {
+                let at = i - 1;
+                if x == 0 {
+                    self.drop_term(k);
+                } else {
+                    self.put_at(k, x, word);
+                    self.move_left(k, at);
+                }
+                at
+            }
+        }
     }
-    if x == 0 {
-        rotate_left(o, k, last);
-        return Added {
-            terms: last,
-            at: at,
-        };
-    }
-    put_last(x, v, e, c, l, w, o, k);
-    rotate_left(o, k, at);
-    Added { terms: n, at: at }
 }

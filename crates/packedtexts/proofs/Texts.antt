@@ -42,8 +42,8 @@ pub row_parts : (c : ℕ) (v : List ℕ) → row_text c v ≡ write_number c ++ 
 unfolding row_text row_fields joined
 row_parts c v = append_assoc (write_number c) (32 ∷ write_word v) (10 ∷ [])
 
-pub row-length : (c : ℕ) (v : List ℕ) → length (row_text c v) ≡ length (write_number c) + length (write_word v) + 2
-row-length c v =
+pub row_length : (c : ℕ) (v : List ℕ) → length (row_text c v) ≡ length (write_number c) + length (write_word v) + 2
+row_length c v =
     ap (λ (x : List ℕ). length x) (row_parts c v)
     ∙ length-append (write_number c) (32 ∷ (write_word v ++ (10 ∷ [])))
     ∙ omega (arith, length-append (write_word v) (10 ∷ []))
@@ -58,9 +58,9 @@ decimal-length (suc k) n = go (ltb n 10) (decimal-length k (n / 10))
     go false h = omega (arith, length-append (decimal k (n / 10)) ((48 + n % 10) ∷ []))
 
 -- a number has no more digits than it is great, or one
-pub number-length : (n : ℕ) → length (write_number n) ≤ n + 1
+pub number_length : (n : ℕ) → length (write_number n) ≤ n + 1
 unfolding write_number
-number-length n = omega (arith, decimal-length n n)
+number_length n = omega (arith, decimal-length n n)
 
 -- a line written in four parts
 pub row-stored : (out out1 out2 : List ℕ) (at a b c : ℕ) (v : List ℕ) → out1 ≡ sets out at (write_number c) → a ≡ at + length (write_number c)

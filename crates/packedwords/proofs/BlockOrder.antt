@@ -7,8 +7,8 @@ use native.Mathlib.Decide.{dec_lt}
 use native.Mathlib.Omega.{arith}
 use lib.ListN.{length, get_or, drop, drop_of_length-le, get_or-eq_default}
 use lib.Seq.{drop-cons}
-use Rattle.words.specs.declared.Comparison.{Comparison}
-use Rattle.words.specs.declared.Comparison.TheVariants.{Equal}
+use Rattle.std.specs.declared.cmp.Ordering.{Ordering}
+use Rattle.std.specs.declared.cmp.Ordering.TheVariants.{Equal}
 use Rattle.words.specs.Word.{Word}
 use Rattle.words.specs.Order.{by_number_of, by_letters}
 use Rattle.words.proofs.Lexicographic.{number-less, number-greater, number_same}
@@ -17,7 +17,7 @@ use Rattle.packedwords.specs.Packed.{Codes, Nonzero, value, window, packed_from,
 use Rattle.packedwords.proofs.Packing.{unpacked-codes, unpacked-length}
 
 -- Where a code is put behind each of two numbers, the numbers decide, and where they agree the codes.
-last_code : (x y a b : ℕ) (c : Comparison) → a < 32 → b < 32 → by_number_of (x * 32 + a) (y * 32 + b) c ≡ by_number_of x y (by_number_of a b c)
+last_code : (x y a b : ℕ) (c : Ordering) → a < 32 → b < 32 → by_number_of (x * 32 + a) (y * 32 + b) c ≡ by_number_of x y (by_number_of a b c)
 last_code x y a b c p q = go (dec_lt x y) (dec_lt y x) (dec_lt a b) (dec_lt b a)
   where
     go : Dec (x < y) → Dec (y < x) → Dec (a < b) → Dec (b < a) → by_number_of (x * 32 + a) (y * 32 + b) c ≡ by_number_of x y (by_number_of a b c)
@@ -29,7 +29,7 @@ last_code x y a b c p q = go (dec_lt x y) (dec_lt y x) (dec_lt a b) (dec_lt b a)
 
 module _ (u v : Word) where
   -- what the letters from place i on say
-  abbrev from : ℕ → Comparison
+  abbrev from : ℕ → Ordering
   from i = by_letters itself (drop i u) (drop i v)
 
   -- The letters at place i decide, and where they agree those behind.

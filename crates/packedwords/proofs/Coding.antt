@@ -8,9 +8,8 @@ use native.Mathlib.Decide.{ℕ_discrete, dec_lt}
 use native.Mathlib.Omega.{arith}
 use borrow.Author.Tests.{eq-eqb, ne_eqb}
 use Rattle.lists.specs.All.{All, done, ◌also◌}
-use Rattle.words.specs.declared.Comparison.{Comparison}
-use Rattle.words.specs.declared.Found.{Found}
-use Rattle.words.specs.declared.Found.TheVariants.{At, Nowhere}
+use Rattle.std.specs.declared.cmp.Ordering.{Ordering}
+use Rattle.std.specs.Prelude.{Option, None, Some}
 use Rattle.words.specs.Word.{Word}
 use Rattle.words.specs.Order.{by_number_of, by_letters}
 use Rattle.words.specs.Place.{begins, stands_at, leftmost_from, leftmost}
@@ -19,7 +18,7 @@ use Rattle.packedwords.specs.Codes.{itself}
 
 -- Letters are those numbers that have P. Where a letter of higher rank has the higher number, comparing by rank is comparing the numbers.
 module _ (P : ℕ → Type 0) (rank number : ℕ → ℕ) (agree : (a b : ℕ) → P a → P b → (rank a < rank b) ↔ (number a < number b)) where
-  letter_by_code : (a b : ℕ) (c : Comparison) → P a → P b → by_number_of (rank a) (rank b) c ≡ by_number_of (number a) (number b) c
+  letter_by_code : (a b : ℕ) (c : Ordering) → P a → P b → by_number_of (rank a) (rank b) c ≡ by_number_of (number a) (number b) c
   letter_by_code a b c p q = go (dec_lt (rank a) (rank b)) (dec_lt (rank b) (rank a))
     where
       go : Dec (rank a < rank b) → Dec (rank b < rank a) → by_number_of (rank a) (rank b) c ≡ by_number_of (number a) (number b) c
@@ -61,9 +60,9 @@ module _ (P : ℕ → Type 0) (number : ℕ → ℕ) (own : (a b : ℕ) → P a 
   leftmost_from_codes : (b w : Word) (i : ℕ) → All P b → All P w → leftmost_from (map number b) (map number w) i ≡ leftmost_from b w i
   unfolding leftmost_from
   leftmost_from_codes b [] i p done =
-      ap (λ (t : Bool). elim t [ true ↦ At i | false ↦ Nowhere ]) (begins_by_codes b [] p done)
+      ap (λ (t : Bool). elim t [ true ↦ Some i | false ↦ None ]) (begins_by_codes b [] p done)
   leftmost_from_codes b (a ∷ w) i p (q also qs) =
-      ap₂ (λ (t : Bool) (o : Found). elim t [ true ↦ At i | false ↦ o ]) (begins_by_codes b (a ∷ w) p (q also qs))
+      ap₂ (λ (t : Bool) (o : Option ℕ). elim t [ true ↦ Some i | false ↦ o ]) (begins_by_codes b (a ∷ w) p (q also qs))
       (leftmost_from_codes b w (suc i) p qs)
 
   pub leftmost_by_codes : (b w : Word) → All P b → All P w → leftmost (map number b) (map number w) ≡ leftmost b w

@@ -1,47 +1,25 @@
--- Parts of two slices compared, one law for each way through a turn: the entries from j on say what all of them say.
-use mathlib.Core.Path.{◌≡◌, sym, ◌∙◌}
-use mathlib.Core.List.{List}
-use Prim.Native.Nat.{ℕ, ◌+◌, ◌≤◌, ◌<◌}
-use native.Mathlib.Numerals.{add-one}
-use native.Mathlib.Omega.{arith}
-use lib.ListN.{length, get_or, take, drop, drop_of_length-le}
-use Rattle.lists.proofs.Parts.{part_length}
-use Rattle.words.specs.declared.Comparison.{Comparison}
-use Rattle.words.specs.declared.Comparison.TheVariants.{Below, Equal, Above}
+-- What `cmp` answers of two lists of numbers is their order as words of letters that rank by themselves.
+use mathlib.Core.Path.{◌≡◌, refl, sym, ◌∙◌}
+use mathlib.Core.List.{List, [], ◌∷◌}
+use Prim.Native.Nat.{ℕ, ◌<◌}
+use Rattle.std.specs.declared.cmp.Ordering.{Ordering}
+use Rattle.std.specs.declared.cmp.Ordering.TheVariants.{Less, Equal, Greater}
+use Rattle.std.specs.Ordering.{nat_cmp, MatchOrdering, ordering_then}
+use Rattle.std.specs.Cmp.Lexicographic.{slice_cmp}
+use Rattle.std.proofs.lemmas.Cmp.{ranked}
 use Rattle.words.specs.Order.{by_number_of, by_letters}
 use Rattle.words.proofs.Lexicographic.{number-less, number-greater, number_same}
 use Rattle.packedwords.specs.Codes.{itself}
-use Rattle.packedwords.proofs.BlockOrder.{decides_inside}
-use Rattle.lists.proofs.Entries.{part_at}
 
-module _ (u v : List ℕ) (at bt k : ℕ) (h : at + k ≤ length u) (m : bt + k ≤ length v) where
-  abbrev s : List ℕ
-  s = take k (drop at u)
-
-  abbrev t : List ℕ
-  t = take k (drop bt v)
-
-  -- what the entries from j on say
-  abbrev pub rest : ℕ → Comparison
-  rest j = by_letters itself (drop j s) (drop j t)
-
-  step : (j : ℕ) → j < k → by_number_of (get_or u (at + j) 0) (get_or v (bt + j) 0) (rest (j + 1)) ≡ rest j
-  step j l =
-      rw (sym (part_at u at k j l), sym (part_at v bt k j l), add-one j)
-      (decides_inside s t j (omega (arith, part_length at k u h)) (omega (arith, part_length bt k v m)))
-
-  pub rest_below : (j : ℕ) → j < k → get_or u (at + j) 0 < get_or v (bt + j) 0 → rest j ≡ Below
-  rest_below j l d = sym (step j l) ∙ number-less _ d
-
-  pub rest-above : (j : ℕ) → j < k → get_or v (bt + j) 0 < get_or u (at + j) 0 → rest j ≡ Above
-  rest-above j l d = sym (step j l) ∙ number-greater _ d
-
-  pub rest-same : (j : ℕ) → j < k → get_or u (at + j) 0 ≡ get_or v (bt + j) 0 → rest (j + 1) ≡ rest j
-  rest-same j l e = sym (number_same _ e) ∙ step j l
-
-  pub rest_end : (j : ℕ) → k ≤ j → rest j ≡ Equal
-  unfolding by_letters
-  rest_end j l =
-      let a : length s ≤ j = omega (arith, part_length at k u h) in
-      let b : length t ≤ j = omega (arith, part_length bt k v m) in
-      rw (drop_of_length-le s a, drop_of_length-le t b)
+pub blocks_cmp : (s t : List ℕ) → slice_cmp nat_cmp s t ≡ by_letters itself s t
+unfolding by_letters
+blocks_cmp [] [] = refl
+blocks_cmp [] (y ∷ t) = refl
+blocks_cmp (x ∷ s) [] = refl
+blocks_cmp (x ∷ s) (y ∷ t) = go (nat_cmp x y) (ranked x y (nat_cmp x y) refl) (blocks_cmp s t)
+  where
+    go : (r : Ordering) → MatchOrdering r (x < y) (x ≡ y) (y < x) → slice_cmp nat_cmp s t ≡ by_letters itself s t
+        → ordering_then r (slice_cmp nat_cmp s t) ≡ by_number_of x y (by_letters itself s t)
+    go Less l rest = sym (number-less _ l)
+    go Equal e rest = rest ∙ sym (number_same _ e)
+    go Greater l rest = sym (number-greater _ l)

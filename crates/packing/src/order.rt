@@ -4,24 +4,12 @@ ghost use Rattle.std.specs.Prelude.{◌≡◌, ◌+◌, ◌≤◌, length, take,
 ghost use Rattle.words.specs.Order.{by_letters};
 ghost use Rattle.packedwords.specs.Codes.{itself};
 
-use words::Comparison;
+use std::cmp::Ordering;
 
 // How the k blocks of u from block `at` on stand to the k blocks of v from block `bt` on.
-pub fn compare(u: &[u64], at: usize, v: &[u64], bt: usize, k: usize) -> Comparison
+pub fn compare(u: &[u64], at: usize, v: &[u64], bt: usize, k: usize) -> Ordering
     requires { (at + k ≤ length u.now) × (bt + k ≤ length v.now) }
     ensures { result ≡ by_letters itself (take k (drop at u.now)) (take k (drop bt v.now)) }
 {
-    let mut j = 0;
-    while j < k {
-        let x = u[at + j];
-        let y = v[bt + j];
-        if x < y {
-            return Comparison::Below;
-        }
-        if y < x {
-            return Comparison::Above;
-        }
-        j += 1;
-    }
-    Comparison::Equal
+    u[at..at + k].cmp(&v[bt..bt + k])
 }

@@ -1,6 +1,6 @@
 // Parts of a word of at most 72 letters, in six blocks: its first letters, and its letters from a place on.
 
-ghost use Rattle.std.specs.Prelude.{◌≡◌, ◌+◌, ◌-◌, ◌≤◌, ◌<◌, ◌^◌, length, get_or, set, take, drop, replicate};
+ghost use Rattle.std.specs.Prelude.{◌≡◌, ◌+◌, ◌-◌, ◌≤◌, ◌<◌, ◌^◌, length, get_or, set, take, drop};
 ghost use Rattle.packedwords.specs.Packed.{Blocks, window_of, front, unpacked, Packs};
 
 use crate::block::{down, up};
@@ -40,29 +40,6 @@ pub fn front(x: u64, r: usize) -> u64
     x
 }
 
-// Six zeros.
-fn clear(dst: &mut [u64; 6])
-    requires { length dst.old ≡ 6 }
-    ensures { dst.new ≡ replicate 6 0 }
-{
-    dst[0] = 0;
-    dst[1] = 0;
-    dst[2] = 0;
-    dst[3] = 0;
-    dst[4] = 0;
-    dst[5] = 0;
-}
-
-// i - 12, and 0 where i is less.
-fn behind(i: usize) -> usize
-    ensures { result ≡ i - 12 }
-{
-    if i < 12 {
-        return 0;
-    }
-    i - 12
-}
-
 // Puts the first i letters of the word of m letters in src into dst. A word of at most 24 letters takes two blocks, and no loop is run whose turns
 // the processor would have to guess; of a longer one the blocks in which the part stands are made one after the other.
 pub fn left_part(dst: &mut [u64; 6], src: &[u64; 6], m: usize, i: usize)
@@ -71,18 +48,14 @@ pub fn left_part(dst: &mut [u64; 6], src: &[u64; 6], m: usize, i: usize)
     ensures dst_len { (length dst.new ≡ 6) × Packs i dst.new }
     ensures dst_after { unpacked i dst.new ≡ take i (unpacked m src.now) }
 {
-    clear(dst);
+    *dst = [0; 6];
     if m <= 24 {
         dst[0] = front(src[0], i);
-        dst[1] = front(src[1], behind(i));
+        dst[1] = front(src[1], i.saturating_sub(12));
         return;
     }
-    let mut j = 0;
-    let mut k = 0;
-    while k < i {
-        dst[j] = front(src[j], i - k);
-        j += 1;
-        k += 12;
+    for j in 0..i.div_ceil(12) {
+        dst[j] = front(src[j], i - 12 * j);
     }
 }
 
@@ -108,16 +81,12 @@ pub fn right_part(dst: &mut [u64; 6], src: &[u64; 6], m: usize, i: usize)
     ensures dst_len { (length dst.new ≡ 6) × Packs (m - i) dst.new }
     ensures dst_after { unpacked (m - i) dst.new ≡ drop i (unpacked m src.now) }
 {
-    clear(dst);
+    *dst = [0; 6];
     if m <= 24 {
         two_windows(dst, src, i);
         return;
     }
-    let mut j = 0;
-    let mut k = i;
-    while k < m {
-        dst[j] = window_at(src, k);
-        j += 1;
-        k += 12;
+    for j in 0..(m - i).div_ceil(12) {
+        dst[j] = window_at(src, i + 12 * j);
     }
 }

@@ -8,7 +8,7 @@ ghost use Rattle.packedwords.specs.Packed.{unpacked, Packs};
 
 use crate::block::{down, up};
 
-// Copies the six blocks at the front of src to dst, from block `at` on.
+// Copies the six blocks at the front of src to dst, from block `at` on. (Not by `copy_from_slice`, which asks whether the two overlap and is slower.)
 pub fn copy_place(dst: &mut [u64], at: usize, src: &[u64])
     requires { (at + 6 ≤ length dst.old) × (6 ≤ length src.now) }
     ensures { dst.new ≡ sets dst.old at (take 6 src.now) }
@@ -32,10 +32,7 @@ pub fn begin(dst: &mut [u64; 9], src: &[u64; 6])
     requires { (length dst.old ≡ 9) × (length src.now ≡ 6) }
     ensures { (length dst.new ≡ 9) × (take 6 dst.new ≡ src.now) × (drop 6 dst.new ≡ replicate 3 0) }
 {
-    copy_place(dst, 0, src);
-    dst[6] = 0;
-    dst[7] = 0;
-    dst[8] = 0;
+    *dst = [src[0], src[1], src[2], src[3], src[4], src[5], 0, 0, 0];
 }
 
 // Puts the word of n letters in two blocks of src, from block `from` on, behind the word of m letters in dst. The answer is m + n.
@@ -66,6 +63,7 @@ pub fn append_long(dst: &mut [u64; 9], m: usize, src: &[u64; 6], n: usize) -> us
     ensures value { (result ≡ m + n) × (length dst.new ≡ 9) × Packs result dst.new }
     ensures dst_after { unpacked result dst.new ≡ unpacked m dst.old ++ unpacked n src.now }
 {
+    // A `while`, as no range is walked: the last letters, 24 or fewer, are put behind the loop.
     let mut e = m;
     let mut j = 0;
     let mut left = n;
@@ -98,15 +96,7 @@ fn begin_short(
     let first = left[0] + down(x, s);
     let second = up(x, t) + down(y, s);
     let third = up(y, t);
-    dst[0] = first;
-    dst[1] = second;
-    dst[2] = third;
-    dst[3] = 0;
-    dst[4] = 0;
-    dst[5] = 0;
-    dst[6] = 0;
-    dst[7] = 0;
-    dst[8] = 0;
+    *dst = [first, second, third, 0, 0, 0, 0, 0, 0];
     a + n
 }
 

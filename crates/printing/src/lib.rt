@@ -15,12 +15,10 @@ pub fn put_numbers_line(out: &mut [u8], at: usize, ns: &[u64]) -> usize
     ensures value { result ≡ at + length (numbers_line ns.now) }
     ensures out_after { out.new ≡ sets out.old at (numbers_line ns.now) }
 {
-    let mut i = 0;
     let mut o = at;
-    while i < ns.len() {
+    for &n in ns {
         out[o] = b' ';
-        o = put_number(out, o + 1, ns[i]);
-        i += 1;
+        o = put_number(out, o + 1, n);
     }
     out[o] = b'\n';
     o + 1

@@ -2,120 +2,76 @@
 
 ghost use Rattle.std.specs.Prelude.{◌≡◌, ◌≤◌, length, drop};
 ghost use Rattle.text.specs.Pieces.{lines};
-ghost use Rattle.package.specs.Names.{head_names, term_names};
 ghost use Rattle.package.specs.Package.{names_line, counts_line, head_lines_of};
 ghost use Rattle.package.specs.Held.{seen_names, NamesHeld, seen_counts, CountsHeld, seen_head_lines, HeadHeld};
 
 use linetests::counts::{counts_fit, field_fits, read_head};
-use linetests::names::{is_head_names, is_term_names};
-use package::{CountsAt, CountsRead, Head, HeadAt, HeadEnded, HeadRead, NamesRead, Refusal};
+use package::{CountsAt, HeadAt, Refusal};
 use text::bytes::find;
 
-// Line 1, the names of block 1, which starts the text.
-fn read_head_names(s: &[u8]) -> NamesRead
-    ensures result_value { seen_names s.now 1 result ≡ names_line head_names 1 (lines s.now) }
+// The names line with number line, which starts at the place from and has to be the bytes names: refusal 2, or where the line behind it starts.
+#[tactic(auto, using(package::proofs::Joining::names_missing, package::proofs::Joining::names_other, package::proofs::Joining::names_same, text::proofs::Bytewise::pointwise_same), unfolding(package::specs::Held::seen_names, package::specs::Held::NamesHeld))]
+fn read_names(names: &[u8], s: &[u8], from: usize, line: usize) -> Result<usize, Refusal>
+    requires { from ≤ length s.now }
+    ensures result_value { seen_names s.now result ≡ names_line names.now line (lines (drop from s.now)) }
     ensures names_held { NamesHeld s.now result }
 {
-    let e = find(s, 0, 10);
-    if s.len() <= e {
-        return NamesRead::Misshapen;
+    let e = find(s, from, 10);
+    if s.len() <= e || &s[from..e] != names {
+        return Err(Refusal {
+            number: 2,
+            place: line,
+        });
     }
-    if !is_head_names(&s[0..e]) {
-        return NamesRead::Misshapen;
-    }
-    NamesRead::Next(e + 1)
+    Ok(e + 1)
 }
 
 // Line 2, the counts, which starts at the place from: its shape, then 3 for p, then 4 for the other counts.
-fn read_counts(s: &[u8], from: usize) -> CountsRead
+#[tactic(auto, using(package::proofs::Joining::counts_missing, package::proofs::Joining::counts_wrong, package::proofs::Joining::counts_3, package::proofs::Joining::counts_4, package::proofs::Joining::counts_right, package::proofs::CountsLine::counts_bounds), unfolding(package::specs::Held::seen_head, package::specs::Held::seen_counts, package::specs::Held::CountsHeld))]
+fn read_counts(s: &[u8], from: usize) -> Result<CountsAt, Refusal>
     requires { from ≤ length s.now }
     ensures result_value { seen_counts s.now result ≡ counts_line (lines (drop from s.now)) }
     ensures counts_held { CountsHeld s.now result }
 {
     let e = find(s, from, 10);
     if s.len() <= e {
-        return CountsRead::Refused(Refusal {
+        return Err(Refusal {
             number: 2,
             place: 2,
         });
     }
-    let HeadRead::Counts {
-        p,
-        letters,
-        gens,
-        basis,
-    } = read_head(&s[from..e])
-    else {
-        return CountsRead::Refused(Refusal {
+    let Some(head) = read_head(&s[from..e]) else {
+        return Err(Refusal {
             number: 2,
             place: 2,
         });
     };
-    if !field_fits(p) {
-        return CountsRead::Refused(Refusal {
+    if !field_fits(head.p) {
+        return Err(Refusal {
             number: 3,
             place: 2,
         });
     }
-    let h = Head {
-        p: p,
-        letters: letters,
-        gens: gens,
-        basis: basis,
-    };
-    if !counts_fit(h) {
-        return CountsRead::Refused(Refusal {
+    if !counts_fit(head) {
+        return Err(Refusal {
             number: 4,
             place: 2,
         });
     }
-    let next = e + 1;
-    CountsRead::Read(CountsAt { head: h, at: next })
-}
-
-// Line 3, the names of block 2, which starts at the place from.
-fn read_term_names(s: &[u8], from: usize) -> NamesRead
-    requires { from ≤ length s.now }
-    ensures result_value { seen_names s.now 3 result ≡ names_line term_names 3 (lines (drop from s.now)) }
-    ensures names_held { NamesHeld s.now result }
-{
-    let e = find(s, from, 10);
-    if s.len() <= e {
-        return NamesRead::Misshapen;
-    }
-    if !is_term_names(&s[from..e]) {
-        return NamesRead::Misshapen;
-    }
-    NamesRead::Next(e + 1)
+    Ok(CountsAt { head, at: e + 1 })
 }
 
 // Lines 1 to 3: refusals 2, 3 and 4, or the counts, and the place and the number of the first line of block 2.
-pub fn read_head_lines(s: &[u8]) -> HeadEnded
+#[tactic(auto, unfolding(package::specs::Held::NamesHeld, package::specs::Held::CountsHeld, package::specs::Held::HeadHeld))]
+pub fn read_head_lines(s: &[u8]) -> Result<HeadAt, Refusal>
     ensures result_value { seen_head_lines s.now result ≡ head_lines_of (lines s.now) }
     ensures head_held { HeadHeld s.now result }
 {
-    let NamesRead::Next(a) = read_head_names(s) else {
-        return HeadEnded::Refused(Refusal {
-            number: 2,
-            place: 1,
-        });
-    };
-    let r = read_counts(s, a);
-    let c = match r {
-        CountsRead::Refused(v) => {
-            return HeadEnded::Refused(v);
-        },
-        CountsRead::Read(c) => c,
-    };
-    let NamesRead::Next(b) = read_term_names(s, c.at) else {
-        return HeadEnded::Refused(Refusal {
-            number: 2,
-            place: 3,
-        });
-    };
-    let h = c.head;
-    HeadEnded::Read(HeadAt {
-        head: h,
+    let a = read_names(b"p letters gens basis", s, 0, 1)?;
+    let counts = read_counts(s, a)?;
+    let b = read_names(b"kind item coef word", s, counts.at, 3)?;
+    Ok(HeadAt {
+        head: counts.head,
         at: b,
         line: 4,
     })

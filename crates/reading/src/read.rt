@@ -5,7 +5,7 @@ ghost use Rattle.package.specs.Package.{read_package};
 ghost use Rattle.package.specs.Held.{seen_all, count_all, WordsInside, gens_all, basis_all, spot_all, line_all, LineHeld, FirstsHeld};
 
 use crate::head_lines::read_head_lines;
-use package::{HeadEnded, Limits, Reading, Refusal, SumsEnded, TermsEnded};
+use package::{Limits, PackageAt, Refusal};
 use sumreading::sum_lines::judge_sum_block;
 use termreading::items::mark_items;
 use termreading::term_lines::read_terms;
@@ -13,6 +13,7 @@ use termreading::term_lines::read_terms;
 // A package: refusals 1 to 7 with number and place, or its counts, the number of its terms, and where its sum lines start.
 // The terms are in kinds, items, coefs, starts and lens, and firsts says where those of each item start. Where the package is refused
 // the six slices are scratch: nothing is promised of what they hold.
+#[tactic(auto, using(package::proofs::Joining::package_long, package::proofs::Joining::package_head, package::proofs::Joining::package_terms, package::proofs::Joining::package_sums, package::proofs::Joining::package_read_lem, package::proofs::Joining::room_for), unfolding(package::specs::Held::seen_head_lines, package::specs::Held::HeadHeld, package::specs::Held::seen_terms, package::specs::Held::TermsHeld, package::specs::Held::seen_sums, package::specs::Held::seen_all, package::specs::Held::count_all, package::specs::Held::gens_all, package::specs::Held::basis_all, package::specs::Held::spot_all, package::specs::Held::line_all, package::specs::Held::LineHeld, package::specs::Held::FirstsHeld, package::specs::Package::read_package))]
 pub fn read_package(
     s: &[u8],
     kinds: &mut [u8],
@@ -21,7 +22,7 @@ pub fn read_package(
     starts: &mut [u32],
     lens: &mut [u8],
     firsts: &mut [usize],
-) -> Reading
+) -> Result<PackageAt, Refusal>
     requires { (length kinds.old ≡ 1024) × (length items.old ≡ 1024) × (length coefs.old ≡ 1024) × (length starts.old ≡ 1024) × (length lens.old ≡ 1024) × (length firsts.old ≡ 98) }
     ensures result_after { seen_all s.now kinds.new items.new coefs.new starts.new lens.new result ≡ read_package s.now }
     ensures result_bound { (count_all result ≤ 1024) × WordsInside s.now starts.new lens.new (count_all result) }
@@ -30,38 +31,23 @@ pub fn read_package(
     ensures firsts_held { FirstsHeld kinds.new items.new firsts.new result }
 {
     if 65536 < s.len() {
-        return Reading::Refused(Refusal {
+        return Err(Refusal {
             number: 1,
             place: 0,
         });
     }
     let m = Limits { terms: 48, len: 24 };
-    let a = read_head_lines(s);
-    let g = match a {
-        HeadEnded::Refused(r) => {
-            return Reading::Refused(r);
-        },
-        HeadEnded::Read(g) => g,
-    };
-    let h = g.head;
-    let b = read_terms(h, m, s, g.at, g.line, kinds, items, coefs, starts, lens);
-    let t = match b {
-        TermsEnded::Refused(r) => {
-            return Reading::Refused(r);
-        },
-        TermsEnded::Read(t) => t,
-    };
-    let d = judge_sum_block(h, m, s, t.at, t.line);
-    match d {
-        SumsEnded::Refused(r) => Reading::Refused(r),
-        SumsEnded::Sound => {
-            mark_items(h, kinds, items, t.terms, firsts);
-            Reading::Whole {
-                head: h,
-                terms: t.terms,
-                at: t.at,
-                line: t.line,
-            }
-        },
-    }
+    let above = read_head_lines(s)?;
+    let h = above.head;
+    let block = read_terms(
+        h, m, s, above.at, above.line, kinds, items, coefs, starts, lens,
+    )?;
+    judge_sum_block(h, m, s, block.at, block.line)?;
+    mark_items(h, kinds, items, block.terms, firsts);
+    Ok(PackageAt {
+        head: h,
+        terms: block.terms,
+        at: block.at,
+        line: block.line,
+    })
 }

@@ -4,6 +4,7 @@ use mathlib.Core.Path.{◌≡◌, refl, sym, ◌∙◌, ap, ap₂}
 use mathlib.Core.Logic.{◌⊎◌}
 use mathlib.Core.List.{List, [], map}
 use Prim.Native.Nat.{ℕ}
+use Rattle.std.specs.Prelude.{Result, Ok}
 use Rattle.field.specs.Field.{field_of}
 use Rattle.words.specs.Order.{word_order}
 use Rattle.algebra.specs.Poly.{Poly}
@@ -14,6 +15,7 @@ use Rattle.algebra.proofs.DividedRuns.{run-monic}
 use Rattle.algebra.proofs.WrittenForm.{written-led}
 use Rattle.working.proofs.Families.{family-written}
 use Rattle.package.specs.declared.Head.{Head}
+use Rattle.package.specs.declared.Refusal.{Refusal}
 use Rattle.package.specs.Formula.{FormulaOutcome, wrong_at, formula, read_formula}
 use Rattle.package.specs.Package.{refused}
 use Rattle.acceptance.specs.Content.{basis}
@@ -24,8 +26,6 @@ use Rattle.table.specs.Polynomials.{basis_in}
 use Rattle.table.specs.Tabled.{Tabled}
 use Rattle.tablesums.specs.Heading.{head_in}
 use Rattle.accepting.specs.Accepted.{TableAccepted, Accepts}
-use Rattle.accepting.specs.declared.Accepting.{Accepting}
-use Rattle.accepting.specs.declared.Accepting.TheVariants.{Taken}
 use Rattle.reducing.specs.Reductions.{reduced_by}
 
 -- A package that is refused.
@@ -34,7 +34,7 @@ unfolding reduction package_reduced
 turned_refused bytes text budget n k e = sym (ap (package_reduced text budget) e)
 
 -- A package that is taken.
-pub taken-accepted : (bytes t : List ℕ) (r : Accepting) (n : ℕ) → Accepts bytes t r → r ≡ Taken n → TableAccepted bytes t
+pub taken-accepted : (bytes t : List ℕ) (r : Result ℕ Refusal) (n : ℕ) → Accepts bytes t r → r ≡ Ok n → TableAccepted bytes t
 unfolding Accepts
 taken-accepted bytes t r n a e = (rw e at a).0
 

@@ -11,8 +11,8 @@ use Rattle.words.specs.Laid.{laid_word}
 use Rattle.words.specs.Order.{word_order}
 use Rattle.algebra.specs.Written.{Written}
 use Rattle.working.specs.Polynomial.{poly_at, Given}
-use Rattle.package.specs.declared.FormulaRead.{FormulaRead}
-use Rattle.package.specs.declared.FormulaRead.TheVariants.{Formula}
+use Rattle.std.specs.Prelude.{Result, Ok}
+use Rattle.package.specs.declared.Refusal.{Refusal}
 use Rattle.package.specs.Held.{seen_formula, count_formula, WordsInside}
 use Rattle.package.specs.Formula.{formula, read_formula}
 use Rattle.acceptance.specs.Reduction.{formula_limits}
@@ -27,7 +27,7 @@ pub record Read (p letters : ℕ) (fc fs fl text : List ℕ) : Type 0 where
   pub few : length fc ≤ 48
   pub lettered : (i : ℕ) → i < length fc → All (Letter 26) (laid_word fs fl text i)
 
-module _ (p letters : ℕ) (s cs os ls : List ℕ) (n : ℕ) (e : seen_formula s cs os ls (Formula n) ≡ read_formula p letters formula_limits s)
+module _ (p letters : ℕ) (s cs os ls : List ℕ) (n : ℕ) (e : seen_formula s cs os ls (Ok n) ≡ read_formula p letters formula_limits s)
     (alphabet : letters ≤ 26) (few : n ≤ 48) (inside : WordsInside s os ls n) (lc : length cs ≡ 48) (lo : length os ≡ 48) (ll : length ls ≡ 48) where
   reads : read_formula p letters formula_limits s ≡ formula (poly_at (take n cs) (take n os) (take n ls) s)
   reads = formula-held p letters formula_limits s cs os ls n e (omega arith)
@@ -47,7 +47,7 @@ module _ (p letters : ℕ) (s cs os ls : List ℕ) (n : ℕ) (e : seen_formula s
       })
 
 -- The same from the reader's answer r, as its contract tells, for a field and letters that are those of a table.
-pub answered : (p letters q k : ℕ) (s cs os ls : List ℕ) (n : ℕ) (r : FormulaRead) → q ≡ p → k ≡ letters → r ≡ Formula n
+pub answered : (p letters q k : ℕ) (s cs os ls : List ℕ) (n : ℕ) (r : Result ℕ Refusal) → q ≡ p → k ≡ letters → r ≡ Ok n
     → seen_formula s cs os ls r ≡ read_formula q k formula_limits s → (count_formula r ≤ 48) × WordsInside s os ls (count_formula r) → letters ≤ 26
     → length cs ≡ 48 → length os ≡ 48 → length ls ≡ 48 → Read p letters (take (n - 0) cs) (take (n - 0) os) (take (n - 0) ls) s
 unfolding count_formula

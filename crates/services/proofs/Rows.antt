@@ -6,7 +6,7 @@ use native.Mathlib.Nat.{zero-add}
 use native.Mathlib.Omega.{arith}
 use lib.ListN.{length}
 use Rattle.field.specs.Field.{field_of}
-use Rattle.words.specs.declared.Comparison.TheVariants.{Above}
+use Rattle.std.specs.declared.cmp.Ordering.TheVariants.{Greater}
 use Rattle.words.specs.Word.{Word}
 use Rattle.words.specs.Order.{word_order}
 use Rattle.algebra.specs.Poly.{Poly}
@@ -106,7 +106,7 @@ lacks_room acc {text} {budget} {m} {N} computed {room} e h = rw (← e) (record 
 })
 
 -- A row of two words.
-pub is_above : {u v : List ℕ} {x y : Word} → word_of u ≡ word x → word_of v ≡ word y → word_order x y ≡ Above → IsAbove u v
+pub is_above : {u v : List ℕ} {x y : Word} → word_of u ≡ word x → word_of v ≡ word y → word_order x y ≡ Greater → IsAbove u v
 is_above {x = x} {y} a b c = record { first = x; second = y; says_first = a; says_second = b; greater = c }
 
 -- A row of a list.

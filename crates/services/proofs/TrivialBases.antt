@@ -10,8 +10,8 @@ use lib.ListN.{length}
 use borrow.Author.Tests.{eq-eqb, le-ltb}
 use Rattle.field.specs.Field.{Operations, Field, field_of}
 use Rattle.field.proofs.Derived.{red-zero, red-mul-right, divided_by_one, sub_self, neg-eq-mul}
-use Rattle.words.specs.declared.Comparison.{Comparison}
-use Rattle.words.specs.declared.Comparison.TheVariants.{Below, Equal, Above}
+use Rattle.std.specs.declared.cmp.Ordering.{Ordering}
+use Rattle.std.specs.declared.cmp.Ordering.TheVariants.{Less, Equal, Greater}
 use Rattle.words.specs.Word.{Word}
 use Rattle.words.specs.Order.{Order, Admissible, word_order}
 use Rattle.words.proofs.Admissible.{order_refl}
@@ -73,10 +73,10 @@ module _ {K : Operations} (F : Field K) {O : Order} (A : Admissible O) where
   stepped_one : (t : Term) (f : Poly) → stepped K O basis_one (t ∷ f) t 0 1 ≡ f
   unfolding stepped take_away line_at plus insert put scale shift family lead lead_coef
   stepped_one t f =
-      ap (λ (c : Comparison). elim c [
-        | Below ↦ t ∷ insert K O s f
+      ap (λ (c : Ordering). elim c [
+        | Less ↦ t ∷ insert K O s f
         | Equal ↦ put K (add s.coef t.coef) t.word f
-        | Above ↦ put K s.coef s.word (t ∷ f)
+        | Greater ↦ put K s.coef s.word (t ∷ f)
       ]) (order_refl A t.word)
       ∙ ap (λ (b : Bool). elim b [ true ↦ f | false ↦ record { coef = red (add s.coef t.coef); word = t.word } ∷ f ])
       (eq-eqb (red (add s.coef t.coef)) 0 (cancels t.coef))

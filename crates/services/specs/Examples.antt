@@ -3,7 +3,7 @@
 -- `scaled-rows_hold`. Rows of bases that are not trimmed stand in UntrimmedExamples.antt.
 use Rattle.std.specs.Prelude.{◌≡◌, List, [], ◌∷◌, ℕ, ◌≤◌, ◌<◌, length}
 use Prim.Native.String.{String}
-use Rattle.words.specs.declared.Comparison.TheVariants.{Above}
+use Rattle.std.specs.declared.cmp.Ordering.TheVariants.{Greater}
 use Rattle.words.specs.Word.{Word}
 use Rattle.words.specs.Order.{word_order}
 use Rattle.algebra.specs.Poly.{Poly}
@@ -51,7 +51,7 @@ pub record IsAbove (u v : List ℕ) : Type 0 where
   pub second : Word
   pub says_first : word_of u ≡ word first
   pub says_second : word_of v ≡ word second
-  pub greater : word_order first second ≡ Above
+  pub greater : word_order first second ≡ Greater
 
 -- The overlaps and inclusions of the package are so many, and this is their list. This says all that listing answers and writes: with room success, the count,
 -- the length of the list, and the list written; with less room 19 with the length of the list.

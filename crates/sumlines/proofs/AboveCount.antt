@@ -1,29 +1,19 @@
 -- Refusal 15, line by line.
 use mathlib.Core.Path.{◌≡◌, refl, sym, ap, ◌∙◌}
 use mathlib.Core.Bool.{Bool, true, false}
-use mathlib.Core.Logic.{◌≢◌}
 use mathlib.Core.List.{List, [], ◌∷◌}
 use Prim.Native.Nat.{ℕ, suc, ◌+◌, ◌≤◌}
 use native.Mathlib.Numerals.{add-one}
 use native.Mathlib.Omega.{arith}
 use lib.Dec.{eqb, ltb}
 use lib.ListN.{length}
-use borrow.Author.Tests.{eq-eqb, ne_eqb, le-ltb}
+use borrow.Author.Tests.{le-ltb}
 use Rattle.package.specs.Names.{sum_o}
 use Rattle.package.specs.Sums.{SumLine}
-use Rattle.acceptance.specs.Check.{Verdict, refusal, items_judged}
-use Rattle.sumlines.specs.declared.SumAt.{SumAt}
-use Rattle.basis.specs.Told.{told}
+use Rattle.acceptance.specs.Check.{Verdict, refusal, fine, items_judged}
+use Rattle.std.specs.Prelude.{Option, None, Some, IfSome}
+use Rattle.package.specs.declared.SumAt.{SumAt}
 use Rattle.sumlines.specs.Lines.{sums_at, held_line, held_from, NumberedFrom, above_count, Counted, uncounted, counted, Inside}
-use Rattle.basis.proofs.ToldNumbers.{told-refused, told-fine}
-
-pub above_not : (count k i : ℕ) → k ≢ sum_o → false ≡ above_count count k i
-unfolding above_count
-above_not count k i n = rw (above_count, ne_eqb k sum_o n)
-
-pub above_test : (count k i : ℕ) → k ≡ sum_o → ltb count i ≡ above_count count k i
-unfolding above_count
-above_test count k i e = rw (above_count, eq-eqb k sum_o e)
 
 pub above_low : (count k i : ℕ) → i ≤ count → above_count count k i ≡ false
 unfolding above_count
@@ -62,42 +52,39 @@ module _ (count : ℕ) (s : SumLine) (ss : List SumLine) where
       go true x false y e = rw (items_judged, x, y)
       go true x true y e = let z : true ≡ false = e in cc
 
--- The lines from `at` on are left to judge; s is the first of them, and `whole` the verdict.
-pub record ItemsLeft (bytes : List ℕ) (count : ℕ) (whole : Verdict) (at line : ℕ) (s : SumAt) : Type 0 where
+-- The lines from `at` on are left to judge; `next` is the first of them, and `whole` the verdict.
+pub record ItemsLeft (bytes : List ℕ) (count : ℕ) (whole : Verdict) (at line : ℕ) (next : Option SumAt) : Type 0 where
   pub some : 1 ≤ line
   pub low : at ≤ length bytes
   pub small : line ≤ at + 4
-  pub inside : s.present ≡ true → Inside bytes at s
-  pub held : held_from bytes line s ≡ sums_at bytes at line
+  pub inside : IfSome next (λ s. Inside bytes at s)
+  pub held : held_from bytes line next ≡ sums_at bytes at line
   pub numbers : Counted line (sums_at bytes at line)
   pub same : items_judged count (sums_at bytes at line) ≡ whole
 
-module _ (bytes : List ℕ) (count : ℕ) (whole : Verdict) (at line : ℕ) (s : SumAt) (h : ItemsLeft bytes count whole at line s) where
-  module _ (p : s.present ≡ true) where
+module _ (bytes : List ℕ) (count : ℕ) (whole : Verdict) (at line : ℕ) where
+  module _ (s : SumAt) (h : ItemsLeft bytes count whole at line (Some s)) where
     first-line : sums_at bytes at line ≡ held_line bytes line s ∷ sums_at bytes s.next (suc line)
     unfolding held_from
-    first-line = sym h.held ∙ rw (held_from, p)
+    first-line = sym h.held
 
-    pub left-above : above_count count s.kind s.item ≡ true → told 15 line ≡ whole
+    pub left-above : above_count count s.kind s.item ≡ true → refusal 15 line ≡ whole
     left-above e =
-        told-refused 15 line (λ e. let z = h.some in omega arith)
-        ∙ sym (items_here count (held_line bytes line s) (sums_at bytes s.next (suc line)) e)
+        sym (items_here count (held_line bytes line s) (sums_at bytes s.next (suc line)) e)
         ∙ ap (items_judged count) (sym first-line) ∙ h.same
 
     rest-counted : Counted (suc line) (sums_at bytes s.next (suc line))
     rest-counted = counted-rest line (held_line bytes line s) (sums_at bytes s.next (suc line)) (rw first-line at h.numbers)
 
-    pub left-next : above_count count s.kind s.item ≡ false → (s' : SumAt)
-        → (s'.present ≡ true → Inside bytes s.next s')
-        → ((n : ℕ) → NumberedFrom n (sums_at bytes s.next n) → held_from bytes n s' ≡ sums_at bytes s.next n)
-        → ItemsLeft bytes count whole s.next (line + 1) s'
-    left-next e s' i k =
-        let x = h.inside p in
-        let a = x.further in
+    pub left-next : above_count count s.kind s.item ≡ false → (next : Option SumAt) → IfSome next (λ s'. Inside bytes s.next s')
+        → ((n : ℕ) → NumberedFrom n (sums_at bytes s.next n) → held_from bytes n next ≡ sums_at bytes s.next n)
+        → ItemsLeft bytes count whole s.next (line + 1) next
+    left-next e next i k =
+        let a = h.inside.further in
         let b = h.small in
         rw (add-one line) (record {
           some = omega arith;
-          low = x.next_le;
+          low = h.inside.next_le;
           small = omega arith;
           inside = i;
           held = k (suc line) (counted-first (suc line) (sums_at bytes s.next (suc line)) rest-counted);
@@ -105,6 +92,6 @@ module _ (bytes : List ℕ) (count : ℕ) (whole : Verdict) (at line : ℕ) (s :
           same = sym (items-later count (held_line bytes line s) (sums_at bytes s.next (suc line)) e) ∙ ap (items_judged count) (sym first-line) ∙ h.same;
         })
 
-  pub left_end : s.present ≡ false → told 15 0 ≡ whole
+  pub left_end : ItemsLeft bytes count whole at line None → fine ≡ whole
   unfolding items_judged held_from
-  left_end p = (told-fine 15 0).1 refl ∙ ap (items_judged count) (rw (held_from, p) at h.held) ∙ h.same
+  left_end h = ap (items_judged count) h.held ∙ h.same

@@ -1,73 +1,25 @@
 // The sum line that stands at a place of the bytes.
 
-ghost use Rattle.std.specs.Prelude.{◌≡◌, true, false, List, ℕ, ◌≤◌, length};
+ghost use Rattle.std.specs.Prelude.{◌≡◌, List, ℕ, ◌≤◌, length, is_some, IfSome};
 ghost use Rattle.sumlines.specs.Lines.{sums_at, held_from, NumberedFrom, first_is, Inside};
 
-use crate::SumAt;
-use package::SumRead;
+use package::SumAt;
 use sumreading::sum_lines::read_sum;
 
-// The answer where no line stands.
-fn no_line() -> SumAt
-    ensures { result.present ≡ false }
-{
-    SumAt {
-        present: false,
-        kind: 0,
-        item: 0,
-        coef: 0,
-        left: 0,
-        leftlen: 0,
-        of: 0,
-        right: 0,
-        rightlen: 0,
-        next: 0,
-    }
-}
-
-// The sum line from the place at on.
-pub fn line_at(bytes: &[u8], at: usize) -> SumAt
+// The sum line from the place at on, if one stands there.
+pub fn line_at(bytes: &[u8], at: usize) -> Option<SumAt>
     requires { at ≤ length bytes.now }
     ensures by_index { (n : ℕ) → NumberedFrom n (sums_at bytes.now at n) → held_from bytes.now n result ≡ sums_at bytes.now at n }
-    ensures inside { result.present ≡ true → Inside bytes.now at result }
+    ensures inside { IfSome result (λ s. Inside bytes.now at s) }
 {
-    let SumRead::Sum {
-        kind,
-        item,
-        coef,
-        left,
-        left_len,
-        of,
-        right,
-        right_len,
-        next,
-    } = read_sum(bytes, at)
-    else {
-        return no_line();
-    };
-    SumAt {
-        present: true,
-        kind: kind,
-        item: item as usize,
-        coef: coef,
-        left: left,
-        leftlen: left_len,
-        of: of as usize,
-        right: right,
-        rightlen: right_len,
-        next: next,
-    }
+    read_sum(bytes, at)
 }
 
-// Whether a line is present and one of the item of the kind.
-pub fn is_item(s: SumAt, kind: u32, item: usize) -> bool
-    ensures { (bytes : List ℕ) (n : ℕ) → result ≡ first_is kind item (held_from bytes n s) }
+// The next line, if there is one and it is one of the item of the kind.
+#[tactic(auto, unfolding(crate::specs::Lines::held_from, crate::specs::Lines::first_is))]
+pub fn item_line(next: Option<SumAt>, kind: u32, item: usize) -> Option<SumAt>
+    ensures same { IfSome result (λ s. next ≡ Some s) }
+    ensures of_item { (bytes : List ℕ) (n : ℕ) → is_some result ≡ first_is kind item (held_from bytes n next) }
 {
-    if !s.present {
-        return false;
-    }
-    if s.kind != kind {
-        return false;
-    }
-    s.item == item
+    next.filter(|s| s.kind == kind && s.item as usize == item)
 }

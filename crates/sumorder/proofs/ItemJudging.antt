@@ -6,6 +6,7 @@ use mathlib.Core.List.{List, [], ◌∷◌}
 use Prim.Native.Nat.{ℕ, suc, ◌+◌, ◌≤◌, ◌<◌}
 use native.Mathlib.Numerals.{add-one}
 use lib.ListN.{length}
+use Rattle.std.specs.Prelude.{Option, Some}
 use Rattle.field.specs.Field.{Operations}
 use Rattle.words.specs.Order.{Order}
 use Rattle.algebra.specs.Poly.{Poly}
@@ -16,7 +17,7 @@ use Rattle.package.specs.Sums.{SumLine}
 use Rattle.acceptance.specs.Content.{sum_of}
 use Rattle.acceptance.specs.Check.{Verdict, refusal, then_judge, less, sum_verdict}
 use Rattle.acceptance.proofs.LinesTaken.{less-fails, less-over, less-more, end-right, end_wrong}
-use Rattle.sumlines.specs.declared.SumAt.{SumAt}
+use Rattle.package.specs.declared.SumAt.{SumAt}
 use Rattle.sumlines.specs.Lines.{sums_at, held_line, held_from, first_is, taken_line}
 use Rattle.sumorder.proofs.NextLine.{NextLine, lines_are, its_sum, no_line-left}
 
@@ -24,12 +25,12 @@ use Rattle.sumorder.proofs.NextLine.{NextLine, lines_are, its_sum, no_line-left}
 abbrev pub item_then : (n kind i : ℕ) → (Line → Bool) → Operations → Order → Family → (List SumLine → Verdict) → List SumLine → Poly → Verdict
 item_then n kind i test K O G later ss f = then_judge (sum_verdict n i (less test K O G f (sum_of kind i ss))) (later ss)
 
--- s is the next line, and what is left gives the verdict `whole`.
+-- What is left gives the verdict `whole`.
 module _ (n kind i : ℕ) (test : Line → Bool) (K : Operations) (O : Order) (G : Family) (later : List SumLine → Verdict) (whole : Verdict)
-    (h : Head) (bytes : List ℕ) (at line : ℕ) (s : SumAt) (d : NextLine h kind i bytes at line s) (f : Poly)
-    (same : item_then n kind i test K O G later (sums_at bytes at line) f ≡ whole) where
-  -- It is one of the item.
-  module _ (p : first_is kind i (held_from bytes line s) ≡ true) where
+    (h : Head) (bytes : List ℕ) (at line : ℕ) where
+  -- The next line is s, one of the item.
+  module _ (s : SumAt) (d : NextLine h kind i bytes at line (Some s)) (f : Poly)
+      (same : item_then n kind i test K O G later (sums_at bytes at line) f ≡ whole) (p : first_is kind i (held_from bytes line (Some s)) ≡ true) where
     abbrev x : SumLine
     x = held_line bytes line s
 
@@ -54,9 +55,10 @@ module _ (n kind i : ℕ) (test : Line → Bool) (K : Operations) (O : Order) (G
       line-more l skip = rw (q, add-one line) (rw (less-more test K O G f x (sum_of kind i ss) e (rw q at l), skip) at with_line)
 
   -- None is left of the item.
-  module _ (p : first_is kind i (held_from bytes line s) ≡ false) where
+  module _ (next : Option SumAt) (d : NextLine h kind i bytes at line next) (f : Poly)
+      (same : item_then n kind i test K O G later (sums_at bytes at line) f ≡ whole) (p : first_is kind i (held_from bytes line next) ≡ false) where
     without : then_judge (sum_verdict n i (less test K O G f [])) (later (sums_at bytes at line)) ≡ whole
-    without = rw (no_line-left h kind i bytes at line s d p) at same
+    without = rw (no_line-left h kind i bytes at line next d p) at same
 
     pub item_wrong : 0 < length f → refusal n i ≡ whole
     unfolding then_judge

@@ -27,7 +27,7 @@ use Rattle.package.specs.Sums.{SumLine, sum_item_fits, ofs, sum_fits, sum_follow
 use Rattle.package.specs.Readable.{SumInOrder, SumsInOrder, no_sums, sum_then}
 use Rattle.acceptance.specs.Content.{sum_of}
 use Rattle.acceptance.specs.Check.{sums_judged, overlaps_judged}
-use Rattle.sumlines.specs.declared.SumAt.{SumAt}
+use Rattle.package.specs.declared.SumAt.{SumAt}
 use Rattle.sumlines.specs.Lines.{held_line, NumberedFrom, first_is, Inside, LineFits}
 use Rattle.sumorder.specs.Reached.{Past, all_left, one_past}
 
@@ -173,11 +173,11 @@ fits_of h k i c l o r = go (sum_item_fits h k i) (coef_fits h.p c) (within 1 (of
 pub line-fits : (h : Head) (k i n : ℕ) (bytes : List ℕ) (at : ℕ) (s : SumAt) → SumInOrder h package_limits k i n (held_line bytes n s) → Inside bytes at s
     → LineFits h.p bytes (ofs h s.kind) s
 line-fits h k i n bytes at s o q =
-    let l = take s.leftlen (drop s.left bytes) in
-    let r = take s.rightlen (drop s.right bytes) in
+    let l = take s.left_len (drop s.left bytes) in
+    let r = take s.right_len (drop s.right bytes) in
     let f = fits_of h s.kind s.item s.coef l s.of r o.fits in
-    let a = part_length s.left s.leftlen bytes q.left_in in
-    let b = part_length s.right s.rightlen bytes q.right_in in
+    let a = part_length s.left s.left_len bytes q.left_in in
+    let b = part_length s.right s.right_len bytes q.right_in in
     let u = f.lefts in
     let v = f.rights in
     record {

@@ -7,24 +7,20 @@ use native.Mathlib.Omega.{arith}
 use lib.Dec.{lit<}
 use lib.ListN.{length, drop, length-append, length-drop}
 use borrow.Author.Tests.{ne_eqb}
+use Rattle.std.specs.Prelude.{Option, Some, None}
 use Rattle.fieldreading.proofs.FieldReading.{word_of_last}
 use Rattle.package.proofs.SumLines.{sum-kind, sum-item, sum-coef, sum_left, sum_of, sum-right, sum-whole}
 use Rattle.package.proofs.SumTexts.{known_kind, kind-clear}
-use Rattle.package.specs.Held.{seen_line_word, GotSum, some_sum, got_sum_of, next_sum, seen_sum}
-use Rattle.package.specs.declared.SumRead.{SumRead}
+use Rattle.package.specs.Held.{some_sum, got_sum_of, next_sum, seen_sum}
 use Rattle.package.specs.Names.{sum_kinds}
 use Rattle.package.specs.Sums.{no_sum, sum, sum_form}
 use Rattle.text.proofs.Bytewise.{within-bounds}
 use Rattle.text.proofs.FieldTexts.{number-starts, starts-number, number-clear, word-starts, starts-word, word-clear, kind-starts, starts-kind}
 use Rattle.text.proofs.PieceTexts.{joined-pieces, clear-pieces, pieces-first}
-use Rattle.text.specs.Field.{none, some, got_of, num_then, GotWord, none_word, some_word, got_word_of, word_then, word_last, rank, write_kind}
+use Rattle.text.specs.Field.{none, some, got_of, num_then, none_word, some_word, got_word_of, word_then, word_last, rank, write_kind}
 use Rattle.text.specs.Number.{number, write_number}
-use Rattle.text.specs.Pieces.{Pieces, final, piece, onto, pieces, lines, fields, joined, part, Without, empty, apart, Clear, clears}
+use Rattle.text.specs.Pieces.{Pieces, final, piece, onto, pieces, lines, fields, joined, Without, empty, apart, Clear, clears}
 use Rattle.text.specs.Word.{WordField, no_word, word, word_of, write_word}
-use Rattle.text.specs.declared.Num.{Num}
-use Rattle.text.specs.declared.Num.TheVariants.{Value}
-use Rattle.text.specs.declared.WordAt.{WordAt}
-use Rattle.text.specs.declared.WordAt.TheVariants.{Spans}
 
 -- The first line, ended or not, and the bytes behind it.
 unfoldable pub first : Pieces → List ℕ
@@ -119,13 +115,13 @@ field_of_line : (t f : List ℕ) (qs : Pieces) → fields (first (lines t)) ≡ 
 field_of_line t f qs e = ap (pieces 32) (text-first t) ∙ field_stays (first (lines t)) (after (lines t)) f qs e
 
 -- So what no reader takes in the text it does not take in the line.
-num_refused : (form : List ℕ → Num) (t : List ℕ) → num_then form (fields t) ≡ none → num_then form (fields (first (lines t))) ≡ none
+num_refused : (form : List ℕ → Option ℕ) (t : List ℕ) → num_then form (fields t) ≡ none → num_then form (fields (first (lines t))) ≡ none
 unfolding num_then got_of
 num_refused form t a = go (fields (first (lines t))) refl
   where
-    none_of : (n : Num) (ps qs : Pieces) → got_of n ps ≡ none → got_of n qs ≡ none
-    none_of Num.Misshapen ps qs h = refl
-    none_of (Value v) ps qs h = absurd (let y : ◌≡◌ {A = ℕ} 0 1 = cc in omega arith)
+    none_of : (n : Option ℕ) (ps qs : Pieces) → got_of n ps ≡ none → got_of n qs ≡ none
+    none_of None ps qs h = refl
+    none_of (Some v) ps qs h = absurd (let y : ◌≡◌ {A = ℕ} 0 1 = cc in omega arith)
 
     go : (ps : Pieces) → fields (first (lines t)) ≡ ps → num_then form (fields (first (lines t))) ≡ none
     go (final f) e = ap (num_then form) e
@@ -166,12 +162,12 @@ last_line (piece l ms) w ls a = go (word_of l) refl a
         (sym (word_of_last l) ∙ e ∙ ap word p, ap ended q)
 
 -- The first line as a sum line.
-line_unended : (s : List ℕ) (ps : Pieces) → behind ps ≡ unended → seen_sum s SumRead.Misshapen ≡ next_sum ps
+line_unended : (s : List ℕ) (ps : Pieces) → behind ps ≡ unended → seen_sum s None ≡ next_sum ps
 unfolding seen_sum next_sum behind
 line_unended s (final l) h = refl
 line_unended s (piece l ls) h = absurd (let y : ◌≡◌ {A = ℕ} 0 1 = cc in omega arith)
 
-line_refused : (s : List ℕ) (ps : Pieces) → no_sum ≡ sum_form (fields (first ps)) → seen_sum s SumRead.Misshapen ≡ next_sum ps
+line_refused : (s : List ℕ) (ps : Pieces) → no_sum ≡ sum_form (fields (first ps)) → seen_sum s None ≡ next_sum ps
 unfolding seen_sum next_sum got_sum_of first
 line_refused s (final l) h = refl
 line_refused s (piece l ls) h = ap (λ x. got_sum_of x ls) h
@@ -184,29 +180,29 @@ line-whole (piece x ms) k i c l o r ls h e = let q : ls ≡ ms = cc in ap₂ got
 
 -- The six fields, in the text.
 module _ (t : List ℕ) where
-  pub line-kind : (s : List ℕ) → num_then (rank sum_kinds) (fields t) ≡ none → seen_sum s SumRead.Misshapen ≡ next_sum (lines t)
+  pub line-kind : (s : List ℕ) → num_then (rank sum_kinds) (fields t) ≡ none → seen_sum s None ≡ next_sum (lines t)
   line-kind s a = line_refused s (lines t) (sum-kind (fields (first (lines t))) (num_refused (rank sum_kinds) t a))
 
   module _ (k : ℕ) (t₁ : List ℕ) (a : num_then (rank sum_kinds) (fields t) ≡ some k (fields t₁)) where
-    pub line-item : (s : List ℕ) → num_then number (fields t₁) ≡ none → seen_sum s SumRead.Misshapen ≡ next_sum (lines t)
+    pub line-item : (s : List ℕ) → num_then number (fields t₁) ≡ none → seen_sum s None ≡ next_sum (lines t)
     line-item s b = line_refused s (lines t) (sum-item (fields (first (lines t))) k (fields (first (lines t₁))) (kind-line t t₁ k a).0 (num_refused number t₁ b))
 
     module _ (i : ℕ) (t₂ : List ℕ) (b : num_then number (fields t₁) ≡ some i (fields t₂)) where
-      pub line-coef : (s : List ℕ) → num_then number (fields t₂) ≡ none → seen_sum s SumRead.Misshapen ≡ next_sum (lines t)
+      pub line-coef : (s : List ℕ) → num_then number (fields t₂) ≡ none → seen_sum s None ≡ next_sum (lines t)
       line-coef s c =
           line_refused s (lines t)
           (sum-coef (fields (first (lines t))) k (fields (first (lines t₁))) (kind-line t t₁ k a).0 i (fields (first (lines t₂))) (number-line t₁ t₂ i b).0
           (num_refused number t₂ c))
 
       module _ (m : ℕ) (t₃ : List ℕ) (c : num_then number (fields t₂) ≡ some m (fields t₃)) where
-        pub line-left : (s : List ℕ) → word_then (fields t₃) ≡ none_word → seen_sum s SumRead.Misshapen ≡ next_sum (lines t)
+        pub line-left : (s : List ℕ) → word_then (fields t₃) ≡ none_word → seen_sum s None ≡ next_sum (lines t)
         line-left s d =
             line_refused s (lines t)
             (sum_left (fields (first (lines t))) k (fields (first (lines t₁))) (kind-line t t₁ k a).0 i (fields (first (lines t₂))) (number-line t₁ t₂ i b).0
             m (fields (first (lines t₃))) (number-line t₂ t₃ m c).0 (word-refused t₃ d))
 
         module _ (l t₄ : List ℕ) (d : word_then (fields t₃) ≡ some_word l (fields t₄)) where
-          pub line_of : (s : List ℕ) → num_then number (fields t₄) ≡ none → seen_sum s SumRead.Misshapen ≡ next_sum (lines t)
+          pub line_of : (s : List ℕ) → num_then number (fields t₄) ≡ none → seen_sum s None ≡ next_sum (lines t)
           line_of s e =
               line_refused s (lines t)
               (sum_of (fields (first (lines t))) k (fields (first (lines t₁))) (kind-line t t₁ k a).0 i (fields (first (lines t₂))) (number-line t₁ t₂ i b).0
@@ -216,7 +212,7 @@ module _ (t : List ℕ) where
             same-behind : behind (lines t) ≡ behind (lines t₅)
             same-behind = (kind-line t t₁ k a).1 ∙ (number-line t₁ t₂ i b).1 ∙ (number-line t₂ t₃ m c).1 ∙ (word_line t₃ t₄ l d).1 ∙ (number-line t₄ t₅ o e).1
 
-            pub line-right : (s : List ℕ) → word_then (lines t₅) ≡ none_word → seen_sum s SumRead.Misshapen ≡ next_sum (lines t)
+            pub line-right : (s : List ℕ) → word_then (lines t₅) ≡ none_word → seen_sum s None ≡ next_sum (lines t)
             line-right s f =
                 ⊎_elim (λ u. line_unended s (lines t) (same-behind ∙ u))
                 (λ u.
@@ -237,22 +233,6 @@ module _ (t : List ℕ) where
 
               pub line-behind : behind (lines t) ≡ ended ls
               line-behind = same-behind ∙ (last_line (lines t₅) r ls f).1
-
--- The answer that says it.
-pub sum-seen : (s : List ℕ) (k i c a m o b n e : ℕ) (x : GotSum) → some_sum k i c (part s a m) o (part s b n) (lines (drop e s)) ≡ x
-    → seen_sum s (SumRead.Sum k i c a m o b n e) ≡ x
-unfolding seen_sum
-sum-seen s k i c a m o b n e x h = h
-
--- What an answer says of the last word.
-module _ (s : List ℕ) (at : ℕ) (r : WordAt) (x : GotWord) where
-  pub seen_no_last : r ≡ WordAt.Misshapen → seen_line_word s at r ≡ x → x ≡ none_word
-  unfolding seen_line_word
-  seen_no_last q h = sym h ∙ rw q
-
-  pub seen_last : (n e : ℕ) → r ≡ Spans n e → seen_line_word s at r ≡ x → x ≡ some_word (part s at n) (lines (drop e s))
-  unfolding seen_line_word
-  seen_last n e q h = sym h ∙ rw q
 
 -- The line behind starts further on.
 pub further : (s : List ℕ) (at e : ℕ) → at ≤ length s → e ≤ length s → behind (lines (drop at s)) ≡ ended (lines (drop e s)) → at < e

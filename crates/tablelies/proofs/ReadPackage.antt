@@ -9,7 +9,7 @@ use Rattle.lists.proofs.Every.{all_at}
 use Rattle.words.specs.Word.{Letter}
 use Rattle.package.specs.declared.Head.{Head}
 use Rattle.package.specs.declared.Limits.{Limits}
-use Rattle.package.specs.declared.Reading.TheVariants.{Whole}
+use Rattle.std.specs.Prelude.{Ok}
 use Rattle.package.specs.Held.{held_term, held_terms, seen_all, WordsInside, StartsMarked}
 use Rattle.package.specs.Package.{Package, read_package, package_limits}
 use Rattle.package.specs.Readable.{Readable, TermsInOrder, no_terms, term_then, under}
@@ -30,7 +30,7 @@ terms-letters h m [] no_terms = done
 terms-letters h m {a = a} (t ∷ ts) (term_then o os) =
     (term-bounds h m t.kind t.item t.coef t.word o.fits).letters also terms-letters h m {a = under a t} ts os
 
-module _ (s ks is cs os ls fs : List ℕ) (h : Head) (m at n : ℕ) (e : seen_all s ks is cs os ls (Whole h m at n) ≡ read_package s)
+module _ (s ks is cs os ls fs : List ℕ) (h : Head) (m at n : ℕ) (e : seen_all s ks is cs os ls (Ok (record { head = h; terms = m; at = at; line = n })) ≡ read_package s)
     (marked : StartsMarked h ks is m fs) (few : m ≤ 1024) (inside : WordsInside s os ls m)
     (lc : m ≤ length cs) (lo : m ≤ length os) (ll : m ≤ length ls) (lf : h.gens + h.basis + 1 < length fs) where
   abbrev P : Package

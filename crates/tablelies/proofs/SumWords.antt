@@ -5,6 +5,7 @@ use mathlib.Core.List.{List}
 use Prim.Native.Nat.{ℕ, suc}
 use native.Mathlib.Omega.{arith}
 use lib.ListN.{drop}
+use Rattle.std.specs.Prelude.{Some}
 use Rattle.lists.specs.All.{All, done, ◌also◌}
 use Rattle.lists.proofs.Every.{all_at}
 use Rattle.words.specs.Word.{Letter}
@@ -12,7 +13,7 @@ use Rattle.text.specs.Pieces.{Pieces, final, piece, lines, fields, part}
 use Rattle.package.specs.declared.Head.{Head}
 use Rattle.package.specs.Sums.{SumLine, SumForm, no_sum, sum, sum_form, with_sum, sums_of}
 use Rattle.package.proofs.SumTexts.{sum-text}
-use Rattle.sumlines.specs.declared.SumAt.{SumAt}
+use Rattle.package.specs.declared.SumAt.{SumAt}
 use Rattle.sumlines.specs.Lines.{held_line, held_from, first_is}
 use Rattle.sumorder.proofs.NextLine.{NextLine, lines_are, next_fits}
 use Rattle.tablesums.specs.Lines.{LineWords}
@@ -32,10 +33,10 @@ sums_lettered n (piece l ls) = go (sum_form (fields l)) refl (sums_lettered (suc
     go no_sum e r = r
     go (sum k i c a o b) e r = let t = sum-text (fields l) k i c a o b e in (within-letters a t.lefts, within-letters b t.rights) also r
 
-module _ (h : Head) (kind i : ℕ) (bytes : List ℕ) (at line : ℕ) (s : SumAt) (d : NextLine h kind i bytes at line s)
-    (q : first_is kind i (held_from bytes line s) ≡ true) where
+module _ (h : Head) (kind i : ℕ) (bytes : List ℕ) (at line : ℕ) (s : SumAt)
+    (d : NextLine h kind i bytes at line (Some s)) (q : first_is kind i (held_from bytes line (Some s)) ≡ true) where
   -- The next line, where it is one of the item.
-  pub next-letters : All (Letter 26) (part bytes s.left s.leftlen) × All (Letter 26) (part bytes s.right s.rightlen)
+  pub next-letters : All (Letter 26) (part bytes s.left s.left_len) × All (Letter 26) (part bytes s.right s.right_len)
   next-letters =
       let all = subst (All BothLettered) (lines_are h kind i bytes at line s d q) (sums_lettered line (lines (drop at bytes))) in
       all_at all (held_line bytes line s) 0 (omega arith)

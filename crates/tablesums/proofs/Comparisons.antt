@@ -1,11 +1,11 @@
 -- The greatest word of a line, made in nine blocks, compared by numbers with an overlap word.
-use mathlib.Core.Path.{◌≡◌, sym, ap, ◌∙◌}
-use mathlib.Core.Bool.{true, false}
+use mathlib.Core.Path.{◌≡◌, refl, sym, ap, ◌∙◌}
 use mathlib.Core.List.{List}
 use Prim.Native.Nat.{ℕ, ◌/◌}
 use lib.ListN.{take}
-use Rattle.words.specs.declared.Comparison.{Comparison}
-use Rattle.words.specs.declared.Comparison.TheVariants.{Below, Equal, Above}
+use Rattle.std.specs.Ordering.{is_lt}
+use Rattle.std.specs.declared.cmp.Ordering.{Ordering}
+use Rattle.std.specs.declared.cmp.Ordering.TheVariants.{Less, Equal, Greater}
 use Rattle.words.specs.Order.{by_number_of, by_letters}
 use Rattle.words.specs.Word.{Word, around}
 use Rattle.packedwords.specs.Codes.{itself}
@@ -25,20 +25,15 @@ built-stand t s z e u v a b =
     built-compares t z u a s e v (built-six t e v b) (built-held t e v b) ∙ ap (order_in t (word_of t z u)) (built-word t e v b)
 
 -- How the greatest word w of a line stands to m decides whether the line is under m.
-module _ (t : List ℕ) (x : Line) (m : Word) (q : Comparison) (w : Word) (e : q ≡ order_in t w m)
-    (d : w ≡ around x.left x.right (lead_in t x.of)) where
-  stands : order_in t (top (family (basis_in t)) x) m ≡ q
-  unfolding top
-  stands = ap (λ (v : Word). order_in t v m) (sym d) ∙ sym e
+pub under_is : (t : List ℕ) (x : Line) (m : Word) (q : Ordering) (w : Word) → q ≡ order_in t w m → w ≡ around x.left x.right (lead_in t x.of)
+    → is_lt q ≡ is_under (order_in t) (family (basis_in t)) m x
+unfolding is_under top
+under_is t x m q w e d = go q refl
+  where
+    stands : order_in t (top (family (basis_in t)) x) m ≡ q
+    stands = ap (λ (v : Word). order_in t v m) (sym d) ∙ sym e
 
-  pub under-below : q ≡ Below → true ≡ is_under (order_in t) (family (basis_in t)) m x
-  unfolding is_under
-  under-below h = rw (is_under, stands, h)
-
-  pub under-equal : q ≡ Equal → false ≡ is_under (order_in t) (family (basis_in t)) m x
-  unfolding is_under
-  under-equal h = rw (is_under, stands, h)
-
-  pub under-above : q ≡ Above → false ≡ is_under (order_in t) (family (basis_in t)) m x
-  unfolding is_under
-  under-above h = rw (is_under, stands, h)
+    go : (o : Ordering) → q ≡ o → is_lt q ≡ is_under (order_in t) (family (basis_in t)) m x
+    go Less h = rw (is_under, stands, h)
+    go Equal h = rw (is_under, stands, h)
+    go Greater h = rw (is_under, stands, h)

@@ -1,7 +1,7 @@
 -- The factors of a pair, cut from its leading words, and the overlap word that they make.
 use mathlib.Core.Path.{◌≡◌, refl, sym, ap, ◌∙◌}
 use mathlib.Core.List.{List, [], ◌∷◌, map, ◌++◌}
-use Prim.Native.Nat.{ℕ, suc, ◌+◌, ◌-◌, ◌*◌, ◌%◌, ◌≤◌}
+use Prim.Native.Nat.{ℕ, suc, ◌+◌, ◌-◌, ◌*◌, ◌%◌, ◌≤◌, ◌<◌}
 use native.Mathlib.Numerals.{add-one}
 use native.Mathlib.Omega.{arith}
 use lib.ListN.{length, get_or, take, drop, replicate, length-append, drop_of_length-le}
@@ -15,10 +15,10 @@ use Rattle.overlapsearch.specs.declared.PairAt.{PairAt}
 use Rattle.overlapsearch.specs.Position.{pair_of}
 use Rattle.packedwords.specs.Packed.{unpacked, Packs}
 use Rattle.packedwords.proofs.Blocks.{packs_widen}
-use Rattle.table.specs.Polynomials.{basis_in}
-use Rattle.table.specs.Table.{gens_in, letter_in, first_in, size_in, blocks_in}
+use Rattle.table.specs.Polynomials.{word_in, basis_in}
+use Rattle.table.specs.Table.{gens_in, basis_count_in, terms_in, letter_in, first_in, size_in, blocks_in}
 use Rattle.table.specs.Tabled.{Tabled}
-use Rattle.table.proofs.LeadingTerms.{LeadTerm}
+use Rattle.table.proofs.LeadingTerms.{lead-term}
 use Rattle.table.proofs.WordSizes.{even-held}
 use Rattle.tablesums.specs.Leading.{lead_in}
 use Rattle.tablesums.specs.Factors.{LeadPacked}
@@ -30,32 +30,40 @@ two_entries t at h =
     ap (take 2) (drop-cons t at 0 (omega arith)) ∙ ap (λ (u : List ℕ). get_or t at 0 ∷ take 1 u) (drop-cons t (suc at) 0 (omega arith))
     ∙ ap (λ (k : ℕ). get_or t at 0 ∷ get_or t k 0 ∷ []) (sym (add-one at))
 
+-- The leading term of basis polynomial g, where i is the number of its item's first term.
+pub record LeadFound (t : List ℕ) (g i : ℕ) : Type 0 where
+  pub inside : i < terms_in t
+  pub few : size_in t i % 256 ≤ 24
+  pub letters : length (lead_in t g) ≡ size_in t i % 256
+  pub word : word_in t i ≡ lead_in t g
+
+pub lead-found : (t : List ℕ) → Tabled t → (g i j : ℕ) → i ≡ first_in t j → j ≡ gens_in t + g → 1 ≤ g → g ≤ basis_count_in t → LeadFound t g i
+lead-found t T g i j e f some most =
+    let L = lead-term t T g some most in
+    rw (e, f) (record { inside = L.inside; few = T.short (first_in t (gens_in t + g)) L.inside; letters = L.letters; word = L.word })
+
 module _ {t : List ℕ} (T : Tabled t) (g : ℕ) where
-  -- The leading word of basis polynomial g, copied to six blocks.
-  pub lead-packed : (L : LeadTerm t g) (z : ℕ) (word : List ℕ) → z ≡ size_in t (first_in t (gens_in t + g)) → word ≡ blocks_in t (first_in t (gens_in t + g)) ++ replicate 4 0
-      → LeadPacked t g (z % 256) word
-  lead-packed L z word e w = rw (e, w) (record {
+  -- Its word, copied to six blocks.
+  pub lead-packed : (i : ℕ) → LeadFound t g i → (z : ℕ) (word : List ℕ) → z ≡ size_in t i → word ≡ blocks_in t i ++ replicate 4 0 → LeadPacked t g (z % 256) word
+  lead-packed i L z word e w = rw (e, w) (record {
     letters = L.letters;
-    few = T.short first L.inside;
+    few = L.few;
     six = six;
     packs = widened.0;
     word = ap (map (letter_in t)) widened.1 ∙ L.word;
   })
     where
-      first : ℕ
-      first = first_in t (gens_in t + g)
+      widened : Packs (size_in t i % 256) (blocks_in t i ++ replicate 4 0)
+          × (unpacked (size_in t i % 256) (blocks_in t i ++ replicate 4 0) ≡ unpacked (size_in t i % 256) (blocks_in t i))
+      widened = packs_widen (size_in t i % 256) (blocks_in t i) (T.held i L.inside).packs 4
 
-      widened : Packs (size_in t first % 256) (blocks_in t first ++ replicate 4 0)
-          × (unpacked (size_in t first % 256) (blocks_in t first ++ replicate 4 0) ≡ unpacked (size_in t first % 256) (blocks_in t first))
-      widened = packs_widen (size_in t first % 256) (blocks_in t first) (T.held first L.inside).packs 4
-
-      six : length (blocks_in t first ++ replicate 4 0) ≡ 6
+      six : length (blocks_in t i ++ replicate 4 0) ≡ 6
       six =
           let inside = L.inside in
           let most = T.terms in
           let size = T.size in
           let none : ℕ = 0 in
-          length-append (blocks_in t first) (replicate 4 none) ∙ ap (λ (k : ℕ). k + 4) (part_length (353 + 3 * first) 2 t (omega arith))
+          length-append (blocks_in t i) (replicate 4 none) ∙ ap (λ (k : ℕ). k + 4) (part_length (353 + 3 * i) 2 t (omega arith))
 
   module _ {n : ℕ} {word : List ℕ} (P : LeadPacked t g n word) (bs : List ℕ) (six : length bs ≡ 6) where
     -- k codes in six blocks hold the word of their letters, of size 257 × k

@@ -8,7 +8,6 @@ use Rattle.words.specs.Word.{Word}
 use Rattle.packedwords.specs.Packed.{value, packed_from, unpacked_from}
 use Rattle.table.specs.Table.{items_in, first_in}
 use Rattle.table.specs.Tabled.{Tabled}
-use Rattle.table.specs.Words.{word_of, Sixfold}
 use Rattle.itemadding.specs.Fits.{Fits}
 use Rattle.tablesums.specs.ShortWords.{ShortWord}
 
@@ -18,11 +17,6 @@ pub short-fits : (t : List ℕ) → Tabled t → (a b item : ℕ) → a % 256 �
 short-fits t T a b item h k some most = record {
   short = λ i lo hi. let q = T.most item some most in let s = T.short i (omega arith) in omega arith;
 }
-
--- What is packed of at most 24 letters.
-pub packed-short : {t : List ℕ} {u : Word} {z : ℕ} {bs : List ℕ} (n : ℕ) → n ≤ 24 → z % 256 ≡ n → Sixfold t z bs → word_of t z bs ≡ u
-    → ShortWord t u z bs
-packed-short n few e six word = record { short = record { six = six; few = omega arith }; word = word }
 
 -- Six zeros hold the empty word, of size 0.
 pub empty-short : (t : List ℕ) → ShortWord t [] 0 (0 ∷ 0 ∷ 0 ∷ 0 ∷ 0 ∷ 0 ∷ [])

@@ -6,18 +6,3 @@ pub mod factors;
 pub mod lines;
 pub mod starting;
 pub mod under;
-
-// The sizes of two packed words that stand left and right of a polynomial or of a word.
-#[derive(Clone, Copy)]
-pub struct Sizes {
-    pub left: usize,
-    pub right: usize,
-}
-
-// The sizes of the three factors of a pair: what of the first leading word is left and right of the second, and the rest of the second behind the first.
-#[derive(Clone, Copy)]
-pub struct Cuts {
-    pub front: usize,
-    pub back: usize,
-    pub rest: usize,
-}

@@ -1,84 +1,57 @@
 // The difference of a pair, with which its sum starts.
 
-ghost use Rattle.std.specs.Prelude.{◌≡◌, ◌≤◌, ◌<◌, length};
+ghost use Rattle.std.specs.Prelude.{◌≡◌, ◌≤◌, ◌<◌};
 ghost use Rattle.algebra.specs.Ideal.{family};
 ghost use Rattle.algebra.specs.Written.{written};
-ghost use Rattle.working.specs.Working.{Arranged};
 ghost use Rattle.overlaps.specs.Overlaps.{rest_of, front_of, back_of, difference};
 ghost use Rattle.overlapsearch.specs.Position.{pair_of};
 ghost use Rattle.table.specs.Polynomials.{basis_in};
 ghost use Rattle.table.specs.Table.{field_in, order_in, basis_count_in};
 ghost use Rattle.table.specs.Tabled.{Tabled};
-ghost use Rattle.packedterms.specs.Formula.{formula, Room, Working};
-ghost use Rattle.tablesums.specs.ShortWords.{ShortWord};
+ghost use Rattle.working.specs.Working.{Arranged};
+ghost use Rattle.packedterms.specs.InFormula.{formula_in, WorkingIn};
+ghost use Rattle.tablesums.specs.ShortWords.{HoldsShort};
 
-use crate::Cuts;
 use itemadding::placing::place_item;
 use itemadding::taking::take_item;
 use overlapsearch::PairAt;
+use packedterms::{PackedWord, WorkingFormula};
 use table::Table;
 use table::numbers::{gens_in, inverse_in};
 
-// Whatever the arrays hold, they then hold the difference of a pair, whose factors are front, back and rest: each side is divided by its own leading
-// coefficient. The answer is how many terms it has.
-// buf is scratch.
+// Whatever the formula was, it then is the difference of a pair, whose factors are front, back and rest: each side is divided by its own leading
+// coefficient. Each product is made in `product`.
 pub fn start_difference(
     t: &Table,
-    f: PairAt,
-    sizes: Cuts,
-    front: &[u64; 6],
-    back: &[u64; 6],
-    rest: &[u64; 6],
-    c: &mut [u32; 560],
-    l: &mut [u32; 560],
-    w: &mut [u64; 3360],
-    o: &mut [u16; 560],
-    buf: &mut [u64; 9],
-) -> usize
-    requires tabled { Tabled t.now × (f.first < basis_count_in t.now) × (f.second < basis_count_in t.now) × (length buf.old ≡ 9) }
-    requires short_word { ShortWord t.now (front_of (family (basis_in t.now)) (pair_of f)) sizes.front front.now }
-    requires short_word_2 { ShortWord t.now (back_of (family (basis_in t.now)) (pair_of f)) sizes.back back.now }
-    requires short_word_3 { ShortWord t.now (rest_of (family (basis_in t.now)) (pair_of f)) sizes.rest rest.now }
-    requires arranged { Arranged o.old × Room c.old l.old w.old o.old }
-    ensures upper_bound { (result ≤ 96) × (length buf.new ≡ 9) }
-    ensures working { Working t.now c.new l.new w.new o.new result }
-    ensures result_after { formula t.now c.new l.new w.new o.new result
+    pair: PairAt,
+    front: &PackedWord<6>,
+    back: &PackedWord<6>,
+    rest: &PackedWord<6>,
+    f: &mut WorkingFormula,
+    product: &mut PackedWord<9>,
+)
+    requires tabled { Tabled t.now × (pair.first < basis_count_in t.now) × (pair.second < basis_count_in t.now) }
+    requires short_word { HoldsShort t.now (front_of (family (basis_in t.now)) (pair_of pair)) front.now }
+    requires short_word_2 { HoldsShort t.now (back_of (family (basis_in t.now)) (pair_of pair)) back.now }
+    requires short_word_3 { HoldsShort t.now (rest_of (family (basis_in t.now)) (pair_of pair)) rest.now }
+    requires arranged { Arranged f.old.places }
+    ensures upper_bound { f.new.terms ≤ 96 }
+    ensures working { WorkingIn t.now f.new }
+    ensures difference { formula_in t.now f.new
         ≡ written (field_in t.now) (order_in t.now)
-        (difference (field_in t.now) (family (basis_in t.now)) (pair_of f)) }
+        (difference (field_in t.now) (family (basis_in t.now)) (pair_of pair)) }
 {
-    let none = [0u64; 6];
     let base = gens_in(t) + 1;
-    let x = inverse_in(t, f.first);
-    let y = inverse_in(t, f.second);
-    let k = place_item(
+    let x = inverse_in(t, pair.first);
+    let y = inverse_in(t, pair.second);
+    place_item(
         t,
         x,
-        &none,
-        0,
-        base + f.first,
+        &PackedWord::<6>::EMPTY,
+        base + pair.first,
         rest,
-        sizes.rest,
-        c,
-        l,
-        w,
-        o,
-        buf,
+        f,
+        product,
     );
-    take_item(
-        t,
-        y,
-        front,
-        sizes.front,
-        base + f.second,
-        0,
-        back,
-        sizes.back,
-        c,
-        l,
-        w,
-        o,
-        k,
-        0,
-        buf,
-    )
+    take_item(t, y, front, base + pair.second, 0, back, f, 0, product);
 }

@@ -1,64 +1,56 @@
 // The test of refusal 14: whether the greatest word that a line brings is below the overlap word.
 
-ghost use Rattle.std.specs.Prelude.{◌≡◌, ℕ, ◌%◌, ◌/◌, ◌≤◌, length, take};
+ghost use Rattle.std.specs.Prelude.{◌≡◌, ℕ, ◌%◌, ◌/◌, ◌≤◌, take};
 ghost use Rattle.words.specs.Order.{by_number_of, by_letters};
 ghost use Rattle.packedwords.specs.Codes.{itself};
 ghost use Rattle.algebra.specs.Ideal.{family};
 ghost use Rattle.table.specs.Polynomials.{basis_in};
 ghost use Rattle.table.specs.Table.{order_in, basis_count_in};
 ghost use Rattle.table.specs.Tabled.{Tabled};
-ghost use Rattle.table.specs.Words.{word_of, line_of, block_count, Built};
+ghost use Rattle.table.specs.Words.{block_count};
 ghost use Rattle.acceptance.specs.Check.{is_under};
-ghost use Rattle.tablesums.specs.ShortWords.{Short};
+ghost use Rattle.packedterms.specs.InFormula.{letters_in, BuiltIn};
+ghost use Rattle.tablesums.specs.Lines.{line_in};
+ghost use Rattle.tablesums.specs.ShortWords.{ShortIn};
 
-use crate::Sizes;
 use itemadding::building::build;
+use packedterms::PackedWord;
 use packing::order::compare;
+use std::cmp::Ordering;
 use table::Table;
 use table::numbers::{first_in, gens_in};
-use words::Comparison;
 
-// How the word of size z in u stands to that of size e in v: the weights decide, and then as many blocks as the first word takes.
-fn stand(u: &[u64; 9], z: usize, v: &[u64; 9], e: usize) -> Comparison
-    requires { (z % 256 ≤ 72) × (length u.now ≡ 9) × (length v.now ≡ 9) }
-    ensures { result ≡ by_number_of (z / 256) (e / 256) (by_letters itself (take (block_count z) u.now) (take (block_count z) v.now)) }
+// How the word u stands to v: the weights decide, and then as many blocks as the first word takes.
+fn stand(u: &PackedWord<9>, v: &PackedWord<9>) -> Ordering
+    requires { u.now.size % 256 ≤ 72 }
+    ensures { result ≡ by_number_of (u.now.size / 256) (v.now.size / 256)
+        (by_letters itself (take (block_count u.now.size) u.now.blocks) (take (block_count u.now.size) v.now.blocks)) }
 {
-    let x = z / 256;
-    let y = e / 256;
-    if x < y {
-        return Comparison::Below;
+    let x = u.size / 256;
+    let y = v.size / 256;
+    match x.cmp(&y) {
+        Ordering::Equal => compare(&u.blocks, 0, &v.blocks, 0, (u.size % 256).div_ceil(12)),
+        unequal => unequal,
     }
-    if y < x {
-        return Comparison::Above;
-    }
-    compare(u, 0, v, 0, (z % 256 + 11) / 12)
 }
 
-// Whether left × leading word × right is below the word of size e in lap, where the leading word is that of basis polynomial `of`. The answer does
-// not depend on the line's coefficient, and so holds for any. The product is made in buf.
+// Whether left × leading word × right is below the word lap, where the leading word is that of basis polynomial `of`. The answer does not depend on
+// the line's coefficient, and so holds for any. The product is made in `product`.
 pub fn is_under(
     t: &Table,
     of: usize,
-    sizes: Sizes,
-    left: &[u64; 6],
-    right: &[u64; 6],
-    lap: &[u64; 9],
-    e: usize,
-    buf: &mut [u64; 9],
+    left: &PackedWord<6>,
+    right: &PackedWord<6>,
+    lap: &PackedWord<9>,
+    product: &mut PackedWord<9>,
 ) -> bool
-    requires tabled { Tabled t.now × (1 ≤ of) × (of ≤ basis_count_in t.now) × Built t.now e lap.now × (length buf.old ≡ 9) }
-    requires short { Short t.now sizes.left left.now × Short t.now sizes.right right.now }
+    requires tabled { Tabled t.now × (1 ≤ of) × (of ≤ basis_count_in t.now) × BuiltIn t.now lap.now }
+    requires short { ShortIn t.now left.now × ShortIn t.now right.now }
     ensures by_index { (x : ℕ)
-        → result ≡ is_under (order_in t.now) (family (basis_in t.now)) (word_of t.now e lap.now)
-        (line_of t.now x sizes.left left.now of sizes.right right.now) }
-    ensures buf_len { length buf.new ≡ 9 }
+        → result ≡ is_under (order_in t.now) (family (basis_in t.now)) (letters_in t.now lap.now)
+        (line_in t.now x left.now of right.now) }
 {
     let first = first_in(t, gens_in(t) + of);
-    let z = build(t, first, left, sizes.left, right, sizes.right, buf);
-    let q = stand(buf, z, lap, e);
-    match q {
-        Comparison::Below => true,
-        Comparison::Equal => false,
-        Comparison::Above => false,
-    }
+    build(t, first, left, right, product);
+    stand(product, lap).is_lt()
 }

@@ -18,12 +18,10 @@ fn scale_rows(t: &mut Table, y: u32, first: usize, end: usize)
     ensures { RowsScaled t.old y first end t.new }
 {
     let p = prime_in(t);
-    let mut i = first;
-    while i < end {
+    for i in first..end {
         let z = mul(p, y, coef_in(t, i));
         let e = size_in(t, i);
         t[352 + 3 * i] = joined(z, e);
-        i += 1;
     }
 }
 
@@ -53,9 +51,7 @@ pub fn divide_basis(t: &mut Table)
     ensures t_after { basis_in t.new ≡ map (monic (field_in t.old)) (basis_in t.old) }
 {
     let n = basis_in(t);
-    let mut g = 0;
-    while g < n {
+    for g in 0..n {
         divide_item(t, g);
-        g += 1;
     }
 }

@@ -17,7 +17,7 @@ pub fn joined(c: u32, z: usize) -> u64
     requires { z < 4294967296 }
     ensures { result ≡ c * 4294967296 + z }
 {
-    c as u64 * 4294967296 + z as u64
+    u64::from(c) * 4294967296 + z as u64
 }
 
 // The row of term i: its coefficient is c, and its word is the n letters of text from `from` on.
@@ -43,9 +43,7 @@ pub fn put_rows(t: &mut Table, coefs: &[u32], starts: &[u32], lens: &[u8], bytes
     ensures { Filled 352 (3 * m) (row_entry (key_in t.old) coefs.now starts.now lens.now bytes.now)
         t.old t.new }
 {
-    let mut i = 0;
-    while i < m {
+    for i in 0..m {
         put_row(t, i, coefs[i], bytes, starts[i] as usize, lens[i] as usize);
-        i += 1;
     }
 }

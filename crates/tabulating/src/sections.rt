@@ -15,11 +15,11 @@ pub fn put_head(t: &mut Table, h: Head, m: usize)
     requires { length t.old ≡ 3424 }
     ensures { Filled 0 6 (head_entry h m) t.old t.new }
 {
-    t[0] = h.p as u64;
-    t[1] = h.letters as u64;
-    t[2] = h.gens as u64;
+    t[0] = u64::from(h.p);
+    t[1] = u64::from(h.letters);
+    t[2] = u64::from(h.gens);
     t[3] = 0;
-    t[4] = h.basis as u64;
+    t[4] = u64::from(h.basis);
     t[5] = m as u64;
 }
 
@@ -28,10 +28,8 @@ fn put_falling(t: &mut Table, a: usize, n: usize, x: usize)
     requires { (length t.old ≡ 3424) × (a + n ≤ 3424) × (n ≤ x) }
     ensures { Filled a n (λ k. x - k) t.old t.new }
 {
-    let mut k = 0;
-    while k < n {
+    for k in 0..n {
         t[a + k] = (x - k) as u64;
-        k += 1;
     }
 }
 
@@ -51,11 +49,9 @@ pub fn put_inverses(t: &mut Table, p: u32, coefs: &[u32], firsts: &[usize], base
     requires leading { Leading p coefs.now firsts.now base n }
     ensures { Filled 80 n (inverse_entry p coefs.now firsts.now base) t.old t.new }
 {
-    let mut g = 0;
-    while g < n {
+    for g in 0..n {
         let a = firsts[base + g];
-        t[80 + g] = inv(p, coefs[a]) as u64;
-        g += 1;
+        t[80 + g] = u64::from(inv(p, coefs[a]));
     }
 }
 
@@ -64,9 +60,7 @@ pub fn put_firsts(t: &mut Table, firsts: &[usize], n: usize)
     requires { (length t.old ≡ 3424) × (n ≤ 130) × (n ≤ length firsts.now) }
     ensures { Filled 208 n (λ j. get_or firsts.now j 0) t.old t.new }
 {
-    let mut j = 0;
-    while j < n {
+    for j in 0..n {
         t[208 + j] = firsts[j] as u64;
-        j += 1;
     }
 }

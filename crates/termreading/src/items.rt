@@ -7,13 +7,15 @@ ghost use Rattle.package.specs.Held.{slots_held, StartsMarked};
 use package::{Head, TERM_G};
 
 // The number of an item among all items, counted from 1.
+#[tactic(auto, unfolding(package::specs::Items::slot))]
 fn slot_of(h: Head, kind: u8, item: u8) -> usize
     ensures { result ≡ slot h kind item }
 {
-    if kind as u32 == TERM_G {
-        return item as usize;
+    let number = usize::from(item);
+    if u32::from(kind) == TERM_G {
+        return number;
     }
-    h.gens as usize + item as usize
+    h.gens as usize + number
 }
 
 // The first term from the place at on that belongs to item number j or a later one, or n.
@@ -22,14 +24,12 @@ fn skip_terms(h: Head, kinds: &[u8], items: &[u8], n: usize, at: usize, j: usize
     ensures value { result ≡ at + first_of j (drop at (slots_held h kinds.now items.now n)) }
     ensures upper_bound { result ≤ n }
 {
-    let mut i = at;
-    while i < n {
+    for i in at..n {
         if j <= slot_of(h, kinds[i], items[i]) {
             return i;
         }
-        i += 1;
     }
-    i
+    n
 }
 
 // For each item number j up to the one after the last: how many terms stand before the first of item j.
@@ -40,10 +40,8 @@ pub fn mark_items(h: Head, kinds: &[u8], items: &[u8], n: usize, firsts: &mut [u
 {
     let end = h.gens as usize + h.basis as usize + 2;
     let mut m = 0;
-    let mut j = 0;
-    while j < end {
+    for j in 0..end {
         m = skip_terms(h, kinds, items, n, m, j);
         firsts[j] = m;
-        j += 1;
     }
 }

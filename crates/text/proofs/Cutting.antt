@@ -1,14 +1,18 @@
 -- Cutting a text at a byte: what `find` says of the pieces of the text.
-use mathlib.Core.Path.{◌≡◌, refl}
-use mathlib.Core.Bool.{Bool, true, false}
+use mathlib.Core.Path.{◌≡◌, refl, sym, ◌∙◌}
+use mathlib.Core.Bool.{Bool, true, false, cond}
 use mathlib.Core.List.{List, [], ◌∷◌}
 use Prim.Native.Nat.{ℕ, suc, ◌+◌, ◌-◌, ◌≤◌, ◌<◌}
 use native.Mathlib.Numerals.{add-one}
 use native.Mathlib.Omega.{arith}
-use lib.Dec.{eqb}
+use lib.Dec.{eqb, ltb}
 use lib.ListN.{length, get_or, take, drop, length-drop, drop_of_length-le}
 use lib.Seq.{drop-cons, drop-drop}
-use borrow.Author.Tests.{eq-eqb, ne_eqb}
+use borrow.Author.Tests.{eq-eqb, ne_eqb, ltb-false}
+use Rattle.std.specs.Prelude.{Option, Some, None, position}
+use Rattle.std.specs.List.{position_or_len}
+use Rattle.std.proofs.lemmas.Option.{none-some, cond_some}
+use Rattle.std.proofs.lemmas.List.Recursion.{is_position_or_len}
 use Rattle.text.specs.Pieces.{final, piece, onto, pieces, stop}
 
 -- How far the first byte b is, turn by turn.
@@ -70,3 +74,24 @@ module _ (b : ℕ) (l : List ℕ) (at e : ℕ) (h : e ≡ at + stop b (drop at l
 
   pub cut-end : length l ≤ e → pieces b (drop at l) ≡ final (drop at l)
   cut-end k = pieces_end b (drop at l) (rw (length-drop at l) (omega arith))
+
+-- How far the first byte b is, as the library counts it.
+stop_position : (b : ℕ) (l : List ℕ) → stop b l ≡ position_or_len (λ x. eqb x b) l
+unfolding stop
+stop_position b l = is_position_or_len (stop b) (λ x. eqb x b) refl (λ x xs. go x xs (eqb x b) refl) l
+  where
+    go : (x : ℕ) (xs : List ℕ) (t : Bool) → eqb x b ≡ t → stop b (x ∷ xs) ≡ cond (eqb x b) 0 (1 + stop b xs)
+    go x xs true e = rw (stop, e)
+    go x xs false e = rw (stop, e) (omega arith)
+
+-- What the library's search for the byte b says: the first b, or none in all the bytes.
+module _ (b : ℕ) (l : List ℕ) (r : Option ℕ) (h : r ≡ position (λ x. eqb x b) l) where
+  pub stop_found : (n : ℕ) → r ≡ Some n → stop b l ≡ n
+  stop_found n e = stop_position b l ∙ (cond_some _ _ _ (sym h ∙ e)).1
+
+  pub stop_not-found : r ≡ None → stop b l ≡ length l
+  stop_not-found e = go (ltb (position_or_len (λ x. eqb x b) l) (length l)) refl
+    where
+      go : (t : Bool) → ltb (position_or_len (λ x. eqb x b) l) (length l) ≡ t → stop b l ≡ length l
+      go true q = let n : r ≡ Some (position_or_len (λ x. eqb x b) l) = rw q at h in absurd (none-some _ (sym e ∙ n))
+      go false q = omega (arith, stop_position b l, stop_le b l, ltb-false _ _ q)

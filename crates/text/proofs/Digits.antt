@@ -10,7 +10,7 @@ use lib.Seq.{drop-cons}
 use Rattle.text.proofs.Bytewise.{within_in}
 use Rattle.text.specs.Bytes.{within}
 use Rattle.text.specs.Number.{digits}
-use Rattle.text.specs.declared.Num.TheVariants.{Misshapen, Value}
+use Rattle.std.specs.Prelude.{None, Some}
 
 unfoldable pub pow : ℕ → ℕ
 pow zero = 1
@@ -35,10 +35,10 @@ module _ (acc : ℕ) (f : List ℕ) (i : ℕ) where
   unfolding digits
   digits_here d h e lo hi = rw (e, drop-cons f i 0, digits, within_in 48 57 (get_or f i 0) (omega arith) (omega arith), add-one i)
 
-  pub digits_not : (d : ℕ) → i < length f → d ≡ get_or f i 0 → within 48 57 d ≡ false → digits acc (drop i f) ≡ Misshapen
+  pub digits_not : (d : ℕ) → i < length f → d ≡ get_or f i 0 → within 48 57 d ≡ false → digits acc (drop i f) ≡ None
   unfolding digits
   digits_not d h e w = let v : within 48 57 (get_or f i 0) ≡ false = rw e at w in rw (drop-cons f i 0, digits, v)
 
-  pub digits-end : length f ≤ i → digits acc (drop i f) ≡ Value acc
+  pub digits-end : length f ≤ i → digits acc (drop i f) ≡ Some acc
   unfolding digits
   digits-end h = rw drop_of_length-le

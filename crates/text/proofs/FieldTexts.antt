@@ -18,8 +18,7 @@ use Rattle.text.specs.Field.{none, some, got_of, num_then, num_last, some_word, 
 use Rattle.text.specs.Number.{number, write_number}
 use Rattle.text.specs.Pieces.{Pieces, final, piece, Without, empty, apart}
 use Rattle.text.specs.Word.{WordField, no_word, word, word_of, write_word}
-use Rattle.text.specs.declared.Num.{Num}
-use Rattle.text.specs.declared.Num.TheVariants.{Misshapen, Value}
+use Rattle.std.specs.Prelude.{Option, Some, None}
 
 -- A number with another field behind it, and as the last field.
 pub starts-number : (v : ℕ) (qs : Pieces) → v < 100000 → num_then number (piece (write_number v) qs) ≡ some v qs
@@ -31,19 +30,19 @@ unfolding num_then got_of
 number-starts (final f) v qs e = absurd (let y : ◌≡◌ {A = ℕ} 0 1 = cc in omega arith)
 number-starts (piece f ps) v qs e = go (number f) refl e
   where
-    go : (n : Num) → number f ≡ n → got_of n ps ≡ some v qs → (piece f ps ≡ piece (write_number v) qs) × (v < 100000)
-    go Misshapen q h = absurd (let y : ◌≡◌ {A = ℕ} 0 1 = cc in omega arith)
-    go (Value u) q h =
+    go : (n : Option ℕ) → number f ≡ n → got_of n ps ≡ some v qs → (piece f ps ≡ piece (write_number v) qs) × (v < 100000)
+    go None q h = absurd (let y : ◌≡◌ {A = ℕ} 0 1 = cc in omega arith)
+    go (Some u) q h =
         let a : u ≡ v = cc in
         let b : ps ≡ qs = cc in
-        let w = number_is_written f v (q ∙ ap Value a) in
+        let w = number_is_written f v (q ∙ ap Some a) in
         (ap₂ piece w.0 b, w.1)
 
-pub ends_number : (v : ℕ) → v < 100000 → num_last (final (write_number v)) ≡ Value v
+pub ends_number : (v : ℕ) → v < 100000 → num_last (final (write_number v)) ≡ Some v
 unfolding num_last
 ends_number v h = read-written-number v h
 
-pub number_ends : (ps : Pieces) (v : ℕ) → num_last ps ≡ Value v → (ps ≡ final (write_number v)) × (v < 100000)
+pub number_ends : (ps : Pieces) (v : ℕ) → num_last ps ≡ Some v → (ps ≡ final (write_number v)) × (v < 100000)
 unfolding num_last
 number_ends (final f) v e = let w = number_is_written f v e in (ap final w.0, w.1)
 number_ends (piece f ps) v e = absurd (let y : ◌≡◌ {A = ℕ} 0 1 = cc in omega arith)
@@ -76,13 +75,13 @@ word_ends (final f) w e = let x = word_is_written f w e in (ap final x.0, x.1)
 word_ends (piece f ps) w e = absurd (let y : ◌≡◌ {A = ℕ} 0 1 = cc in omega arith)
 
 -- A kind with another field behind it.
-rank-place : (n : ℕ) (ks : List ℕ) (b k : ℕ) → rank_from n ks b ≡ Value k → (n ≤ k) × (k < n + length ks) × (b ≡ get_or ks (k - n) 0)
+rank-place : (n : ℕ) (ks : List ℕ) (b k : ℕ) → rank_from n ks b ≡ Some k → (n ≤ k) × (k < n + length ks) × (b ≡ get_or ks (k - n) 0)
 unfolding rank_from
 rank-place n [] b k e = absurd (let y : ◌≡◌ {A = ℕ} 0 1 = cc in omega arith)
 rank-place n (x ∷ ks) b k e = go (eqb x b) refl e (rank-place (suc n) ks b k)
   where
-    go : (t : Bool) → eqb x b ≡ t → ◌≡◌ {A = Num} (elim t [ true ↦ Value n | false ↦ rank_from (suc n) ks b ]) (Value k)
-        → (rank_from (suc n) ks b ≡ Value k → (suc n ≤ k) × (k < suc n + length ks) × (b ≡ get_or ks (k - suc n) 0))
+    go : (t : Bool) → eqb x b ≡ t → ◌≡◌ {A = Option ℕ} (elim t [ true ↦ Some n | false ↦ rank_from (suc n) ks b ]) (Some k)
+        → (rank_from (suc n) ks b ≡ Some k → (suc n ≤ k) × (k < suc n + length ks) × (b ≡ get_or ks (k - suc n) 0))
         → (n ≤ k) × (k < n + suc (length ks)) × (b ≡ get_or (x ∷ ks) (k - n) 0)
     go true q h ih =
         let a : n ≡ k = cc in
@@ -100,18 +99,18 @@ kind-starts ks (final f) k qs e = absurd (let y : ◌≡◌ {A = ℕ} 0 1 = cc i
 kind-starts ks (piece [] ps) k qs e = absurd (let y : ◌≡◌ {A = ℕ} 0 1 = cc in omega arith)
 kind-starts ks (piece (b ∷ []) ps) k qs e = go (rank_from 1 ks b) refl e
   where
-    go : (n : Num) → rank_from 1 ks b ≡ n → got_of n ps ≡ some k qs → (piece (b ∷ []) ps ≡ piece (write_kind ks k) qs) × (within 1 (length ks) k ≡ true)
-    go Misshapen q h = absurd (let y : ◌≡◌ {A = ℕ} 0 1 = cc in omega arith)
-    go (Value u) q h =
+    go : (n : Option ℕ) → rank_from 1 ks b ≡ n → got_of n ps ≡ some k qs → (piece (b ∷ []) ps ≡ piece (write_kind ks k) qs) × (within 1 (length ks) k ≡ true)
+    go None q h = absurd (let y : ◌≡◌ {A = ℕ} 0 1 = cc in omega arith)
+    go (Some u) q h =
         let a : u ≡ k = cc in
         let c : ps ≡ qs = cc in
-        let r = rank-place 1 ks b k (q ∙ ap Value a) in
+        let r = rank-place 1 ks b k (q ∙ ap Some a) in
         (ap₂ piece (ap (λ (x : ℕ). x ∷ []) r.2) c, within_in 1 (length ks) k r.0 (omega arith))
 kind-starts ks (piece (a ∷ b ∷ f) ps) k qs e =
-    let z : got_of (rank ks (a ∷ b ∷ f)) ps ≡ none = ap (λ (n : Num). got_of n ps) (rank-many ks (a ∷ b ∷ f) (λ q. omega arith)) in
+    let z : got_of (rank ks (a ∷ b ∷ f)) ps ≡ none = ap (λ (n : Option ℕ). got_of n ps) (rank-many ks (a ∷ b ∷ f) (λ q. omega arith)) in
     absurd (let y : ◌≡◌ {A = ℕ} 0 1 = cc in omega arith)
 
-pub starts-kind : (ks : List ℕ) (k : ℕ) (qs : Pieces) → rank ks (write_kind ks k) ≡ Value k → num_then (rank ks) (piece (write_kind ks k) qs) ≡ some k qs
+pub starts-kind : (ks : List ℕ) (k : ℕ) (qs : Pieces) → rank ks (write_kind ks k) ≡ Some k → num_then (rank ks) (piece (write_kind ks k) qs) ≡ some k qs
 unfolding num_then got_of
 starts-kind ks k qs e = rw e
 

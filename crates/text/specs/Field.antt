@@ -1,31 +1,29 @@
 -- Reading a line field by field: what a field says, and the fields behind it.
-use Rattle.std.specs.Prelude.{true, false, List, [], ◌∷◌, ℕ, suc, ◌-◌, eqb, length, get_or}
+use Rattle.std.specs.Prelude.{true, false, List, [], ◌∷◌, ℕ, Option, Some, None, suc, ◌-◌, eqb, length, get_or}
 use Rattle.text.specs.Number.{number}
 use Rattle.text.specs.Pieces.{Pieces, final, piece}
 use Rattle.text.specs.Word.{WordField, no_word, word, word_of}
-use Rattle.text.specs.declared.Num.{Num}
-use Rattle.text.specs.declared.Num.TheVariants.{Misshapen, Value}
 
 -- A number and the fields behind it.
 pub data Got : Type 0 where
   none : Got
   some : ℕ → Pieces → Got
 
-unfoldable pub got_of : Num → Pieces → Got
-got_of Misshapen ps = none
-got_of (Value v) ps = some v ps
+unfoldable pub got_of : Option ℕ → Pieces → Got
+got_of None ps = none
+got_of (Some v) ps = some v ps
 
 -- A field that is not the last, and says a number by `form`.
-unfoldable pub num_then : (List ℕ → Num) → Pieces → Got
+unfoldable pub num_then : (List ℕ → Option ℕ) → Pieces → Got
 unfolding got_of
 num_then form (final f) = none
 num_then form (piece f ps) = got_of (form f) ps
 
 -- The last field, a number.
-unfoldable pub num_last : Pieces → Num
+unfoldable pub num_last : Pieces → Option ℕ
 unfolding number
 num_last (final f) = number f
-num_last (piece f ps) = Misshapen
+num_last (piece f ps) = None
 
 -- A word and the fields behind it.
 pub data GotWord : Type 0 where
@@ -49,14 +47,14 @@ word_last (final f) = word_of f
 word_last (piece f ps) = no_word
 
 -- Kinds of one letter each have ranks, in a given order: b's rank among the kinds, the first of which has rank n.
-unfoldable pub rank_from : ℕ → List ℕ → ℕ → Num
-rank_from n [] b = Misshapen
-rank_from n (k ∷ ks) b = elim (eqb k b) [ true ↦ Value n | false ↦ rank_from (suc n) ks b ]
+unfoldable pub rank_from : ℕ → List ℕ → ℕ → Option ℕ
+rank_from n [] b = None
+rank_from n (k ∷ ks) b = elim (eqb k b) [ true ↦ Some n | false ↦ rank_from (suc n) ks b ]
 
 -- The rank of a field of one byte among the kinds, counted from 1.
-unfoldable pub rank : List ℕ → List ℕ → Num
+unfoldable pub rank : List ℕ → List ℕ → Option ℕ
 unfolding rank_from
-rank ks f = elim (eqb (length f) 1) [ true ↦ rank_from 1 ks (get_or f 0 0) | false ↦ Misshapen ]
+rank ks f = elim (eqb (length f) 1) [ true ↦ rank_from 1 ks (get_or f 0 0) | false ↦ None ]
 
 -- A kind as it is written, by its rank.
 unfoldable pub write_kind : List ℕ → ℕ → List ℕ

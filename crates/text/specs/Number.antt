@@ -1,21 +1,19 @@
 -- Numbers as texts: decimal, one to five digits, no leading zero except `0` itself.
-use Rattle.std.specs.Prelude.{true, false, List, [], ◌∷◌, ◌++◌, ℕ, zero, suc, ◌+◌, ◌*◌, ◌-◌, ◌/◌, ◌%◌, eqb, ltb, length, get_or}
-use Rattle.text.specs.declared.Num.{Num}
-use Rattle.text.specs.declared.Num.TheVariants.{Misshapen, Value}
+use Rattle.std.specs.Prelude.{true, false, List, [], ◌∷◌, ◌++◌, ℕ, Option, Some, None, zero, suc, ◌+◌, ◌*◌, ◌-◌, ◌/◌, ◌%◌, eqb, ltb, length, get_or}
 use Rattle.text.specs.Bytes.{within}
 
 -- The number that the digits say behind those that said acc. The digit `0` is byte 48, `9` is 57.
-unfoldable pub digits : ℕ → List ℕ → Num
+unfoldable pub digits : ℕ → List ℕ → Option ℕ
 unfolding within
-digits acc [] = Value acc
-digits acc (d ∷ ds) = elim (within 48 57 d) [ true ↦ digits (acc * 10 + (d - 48)) ds | false ↦ Misshapen ]
+digits acc [] = Some acc
+digits acc (d ∷ ds) = elim (within 48 57 d) [ true ↦ digits (acc * 10 + (d - 48)) ds | false ↦ None ]
 
 -- The number that a field says.
-unfoldable pub number : List ℕ → Num
+unfoldable pub number : List ℕ → Option ℕ
 unfolding digits
 number f = elim (within 1 5 (length f)) [
-  | false ↦ Misshapen
-  | true ↦ elim (eqb (get_or f 0 0) 48) [ true ↦ elim (eqb (length f) 1) [ true ↦ Value 0 | false ↦ Misshapen ] | false ↦ digits 0 f ]
+  | false ↦ None
+  | true ↦ elim (eqb (get_or f 0 0) 48) [ true ↦ elim (eqb (length f) 1) [ true ↦ Some 0 | false ↦ None ] | false ↦ digits 0 f ]
 ]
 
 -- The decimal digits of n: those of n / 10, and behind them the last one. At most k + 1 of them.

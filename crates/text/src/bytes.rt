@@ -3,9 +3,6 @@
 ghost use Rattle.std.specs.Prelude.{◌≡◌, ℕ, ◌+◌, ◌≤◌, length, drop};
 ghost use Rattle.text.specs.Pieces.{stop};
 ghost use Rattle.text.specs.Bytes.{within, all_within};
-ghost use Rattle.lists.specs.Same.{same};
-
-use lists::bytes::wide;
 
 // The place of the first byte b of s from the place at on, or the length of s if there is none.
 pub fn find(s: &[u8], at: usize, b: u8) -> usize
@@ -14,56 +11,23 @@ pub fn find(s: &[u8], at: usize, b: u8) -> usize
     ensures upper_bound { result ≤ length s.now }
     ensures lower_bound { at ≤ result }
 {
-    let mut i = at;
-    while i < s.len() {
-        if s[i] == b {
-            return i;
-        }
-        i += 1;
+    let rest = &s[at..];
+    match rest.iter().position(|&x| x == b) {
+        Some(n) => at + n,
+        None => s.len(),
     }
-    i
-}
-
-// Whether two slices hold the same bytes.
-pub fn is_same(a: &[u8], b: &[u8]) -> bool
-    ensures { result ≡ same a.now b.now }
-{
-    if a.len() != b.len() {
-        return false;
-    }
-    let mut i = 0;
-    while i < a.len() {
-        if a[i] != b[i] {
-            return false;
-        }
-        i += 1;
-    }
-    true
 }
 
 // Whether x is one of lo, .., hi.
 pub fn is_within(lo: u32, hi: u32, x: u32) -> bool
     ensures { result ≡ within lo hi x }
 {
-    if x < lo {
-        return false;
-    }
-    if hi < x {
-        return false;
-    }
-    true
+    (lo..=hi).contains(&x)
 }
 
 // Whether every byte of f is one of lo, .., hi.
 pub fn all_within(lo: u32, hi: u32, f: &[u8]) -> bool
     ensures { result ≡ all_within lo hi f.now }
 {
-    let mut i = 0;
-    while i < f.len() {
-        if !is_within(lo, hi, wide(f[i])) {
-            return false;
-        }
-        i += 1;
-    }
-    true
+    f.iter().all(|&x| is_within(lo, hi, u32::from(x)))
 }

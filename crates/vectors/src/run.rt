@@ -9,6 +9,7 @@ ghost use Rattle.vectors.specs.Stored.{RunsCase, IsShort};
 
 use cases::answers::put_case;
 use cases::head;
+use inputreading::read_full;
 use std::io;
 use std::io::{Read, Write};
 
@@ -28,15 +29,8 @@ fn read_bytes<R: Read>(file: &mut R, input: &mut [u8], n: usize) -> io::Result<b
     ensures read { IfOk result (λ b. OnTrue b (Consumes (R.remaining file.old) (R.remaining file.new) (take n input.new))) }
     ensures ended { IfOk result (λ b. OnFalse b (IfSome (R.remaining file.old) (λ xs. length xs < n))) }
 {
-    let mut done = 0;
-    while done < n {
-        let more = file.read(&mut input[done..n])?;
-        if more == 0 {
-            return Ok(false);
-        }
-        done += more;
-    }
-    Ok(true)
+    let done = read_full(file, &mut input[..n])?;
+    Ok(done == n)
 }
 
 // Runs the next case of the file; false where there is none, or one that is cut off. Behind an error, what was read and written is left open.

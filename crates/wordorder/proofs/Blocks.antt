@@ -4,7 +4,7 @@ use Prim.Native.Nat.{ℕ, ◌+◌, ◌≤◌, ◌<◌}
 use native.Mathlib.Nat.{add-zero}
 use native.Mathlib.Omega.{arith}
 use lib.ListN.{length, get_or, drop}
-use Rattle.words.specs.declared.Comparison.TheVariants.{Equal}
+use Rattle.std.specs.declared.cmp.Ordering.TheVariants.{Equal}
 use Rattle.words.specs.Word.{Word}
 use Rattle.words.specs.Order.{letter_rank, by_number_of, by_letters}
 use Rattle.wordorder.specs.Block.{block_at}

@@ -6,7 +6,7 @@ use native.Mathlib.Nat.{add-zero}
 use native.Mathlib.Decide.{dec_lt}
 use native.Mathlib.Omega.{arith}
 use lib.ListN.{length, get_or, drop}
-use Rattle.words.specs.declared.Comparison.{Comparison}
+use Rattle.std.specs.declared.cmp.Ordering.{Ordering}
 use Rattle.words.specs.Word.{Word}
 use Rattle.words.specs.Order.{letter_rank, by_number_of, by_letters}
 use Rattle.words.proofs.Lexicographic.{number-less, number-greater, number_same}
@@ -27,7 +27,7 @@ less_or_same a b = go (dec_lt a b) (dec_lt b a)
     go (no p) (no q) = inr (inr (omega arith))
 
 -- where two numbers differ, nothing else counts
-pub number_decides : (a b : ℕ) (c d : Comparison) → (a ≡ b → ⊥) → by_number_of a b c ≡ by_number_of a b d
+pub number_decides : (a b : ℕ) (c d : Ordering) → (a ≡ b → ⊥) → by_number_of a b c ≡ by_number_of a b d
 number_decides a b c d n = go (less_or_same a b)
   where
     go : (a < b) ⊎ ((b < a) ⊎ (a ≡ b)) → by_number_of a b c ≡ by_number_of a b d
@@ -36,7 +36,7 @@ number_decides a b c d n = go (less_or_same a b)
     go (inr (inr e)) = absurd (n e)
 
 -- the last letter counts where the letters before it agree
-last_letter : (x y a b : ℕ) (c : Comparison) → a < 256 → b < 256 → by_number_of (x * 256 + a) (y * 256 + b) c ≡ by_number_of x y (by_number_of a b c)
+last_letter : (x y a b : ℕ) (c : Ordering) → a < 256 → b < 256 → by_number_of (x * 256 + a) (y * 256 + b) c ≡ by_number_of x y (by_number_of a b c)
 last_letter x y a b c p q = go (less_or_same x y) (less_or_same a b)
   where
     go : (x < y) ⊎ ((y < x) ⊎ (x ≡ y)) → (a < b) ⊎ ((b < a) ⊎ (a ≡ b)) → by_number_of (x * 256 + a) (y * 256 + b) c ≡ by_number_of x y (by_number_of a b c)
@@ -47,7 +47,7 @@ last_letter x y a b c p q = go (less_or_same x y) (less_or_same a b)
     go (inr (inr e)) (inr (inr l)) = number_same c (omega arith) ∙ sym (number_same _ e ∙ number_same c l)
 
 -- one letter of the words: the later letter is the lower word's
-letter-number : (u v : Word) (i : ℕ) → i < length u → i < length v → get_or u i 0 < 256 → get_or v i 0 < 256
+pub letter-number : (u v : Word) (i : ℕ) → i < length u → i < length v → get_or u i 0 < 256 → get_or v i 0 < 256
     → by_number_of (get_or v i 0) (get_or u i 0) (by_letters letter_rank (drop (i + 1) u) (drop (i + 1) v)) ≡ by_letters letter_rank (drop i u) (drop i v)
 letter-number u v i h k p q = go (less_or_same (get_or v i 0) (get_or u i 0))
   where
@@ -70,4 +70,4 @@ letters-number u v i f g p q (suc r) h k a b =
     let m = p r in
     let n = q r in
     let l = letter-number u v (i + r) (omega arith) (omega arith) (omega arith) (omega arith) in
-    rw e (last_letter (value g r) (value f r) (g r) (f r) _ (q r) (p r) ∙ ap (λ (c : Comparison). by_number_of (value g r) (value f r) c) (rw (s, t) at l) ∙ letters-number u v i f g p q r (omega arith) (omega arith) (λ j d. a j (omega arith)) (λ j d. b j (omega arith)))
+    rw e (last_letter (value g r) (value f r) (g r) (f r) _ (q r) (p r) ∙ ap (λ (c : Ordering). by_number_of (value g r) (value f r) c) (rw (s, t) at l) ∙ letters-number u v i f g p q r (omega arith) (omega arith) (λ j d. a j (omega arith)) (λ j d. b j (omega arith)))

@@ -8,7 +8,6 @@ ghost use Rattle.packedwords.specs.Packed.{window, packed, unpacked};
 ghost use Rattle.table.specs.Table.{code_in, key_weight_in};
 ghost use Rattle.table.specs.Words.{Keys, Sixfold, word_of};
 
-use lists::numbers::lesser;
 use packing::part::front;
 use table::Table;
 use table::numbers::key_in;
@@ -19,11 +18,9 @@ fn pack_letters(t: &Table, text: &[u8], at: usize, r: usize) -> u64
     ensures { result ≡ window (map (code_in t.now) (take r (drop at text.now))) 0 }
 {
     let mut x = 0u64;
-    let mut i = 0;
-    while i < r {
-        let key = key_in(t, text[at + i]);
+    for &b in &text[at..at + r] {
+        let key = key_in(t, b);
         x = x * 32 + key % 32;
-        i += 1;
     }
     x << (60 - 5 * r)
 }
@@ -69,12 +66,10 @@ fn pack_long(t: &Table, text: &[u8], from: usize, n: usize, dst: &mut [u64; 6]) 
     ensures value { result ≡ 256 * weight (key_weight_in t.now) (take n (drop from text.now)) + n }
     ensures dst_after { dst.new ≡ packed 6 (map (code_in t.now) (take n (drop from text.now))) }
 {
-    let mut j = 0;
-    while j < 6 {
-        let i = lesser(12 * j, n);
-        let r = lesser(n - i, 12);
+    for j in 0..6 {
+        let i = (12 * j).min(n);
+        let r = (n - i).min(12);
         dst[j] = pack_block(t, text, from + i, r);
-        j += 1;
     }
     even_size(n)
 }
@@ -86,13 +81,10 @@ fn pack_short(t: &Table, text: &[u8], from: usize, n: usize, dst: &mut [u64; 6])
     ensures value { result ≡ 256 * weight (key_weight_in t.now) (take n (drop from text.now)) + n }
     ensures dst_after { dst.new ≡ packed 6 (map (code_in t.now) (take n (drop from text.now))) }
 {
-    let r = lesser(n, 12);
-    dst[0] = pack_block(t, text, from, r);
-    dst[1] = pack_block(t, text, from + r, n - r);
-    dst[2] = 0;
-    dst[3] = 0;
-    dst[4] = 0;
-    dst[5] = 0;
+    let r = n.min(12);
+    let first = pack_block(t, text, from, r);
+    let second = pack_block(t, text, from + r, n - r);
+    *dst = [first, second, 0, 0, 0, 0];
     even_size(n)
 }
 

@@ -1,12 +1,14 @@
 -- Letters as numbers: of as many letters, the numbers are equal exactly if the letters are.
 use mathlib.Core.Path.{◌≡◌, refl, ◌∙◌, ap}
 use mathlib.Core.Bool.{Bool, true, false, false≢true}
-use Prim.Native.Nat.{ℕ, zero, suc, ◌+◌, ◌*◌, ◌-◌, ◌<◌}
+use mathlib.Core.List.{[], ◌∷◌}
+use Prim.Native.Nat.{ℕ, zero, suc, ◌+◌, ◌<◌}
 use native.Mathlib.Nat.{add-zero}
 use native.Mathlib.Omega.{arith}
-use lib.Dec.{eqb, ltb}
+use lib.Dec.{eqb}
 use lib.ListN.{get_or}
-use borrow.Author.Tests.{eqb-true, ltb-true, ltb-false}
+use borrow.Author.Tests.{eqb-true}
+use Rattle.std.specs.Int.{w64, from_le_bytes}
 use Rattle.words.specs.Word.{Word}
 use Rattle.wordplaces.specs.EightLetters.{same_for, letters_number, NumberAt}
 use Rattle.wordplaces.proofs.TwoLetters.{two_numbers}
@@ -32,40 +34,19 @@ numbers_same u v (suc n) i j b c =
 pub eight_same : (u v : Word) (i j r s : ℕ) → NumberAt u i 8 r → NumberAt v j 8 s → eqb r s ≡ same_for u i v j 8
 eight_same u v i j r s a b = rw (a.number, b.number) (numbers_same u v 8 i j a.bytes b.bytes)
 
--- a byte of the first m letters is one of them, another one of the n behind them
-bytes-joined : (u : Word) (i m n : ℕ) → Bytes u i m → Bytes u (i + m) n → Bytes u i (m + n)
-bytes-joined u i m n a b k h = go (ltb k m) refl
-  where
-    go : (t : Bool) → ltb k m ≡ t → get_or u (i + k) 0 < 256
-    go true e = a k (ltb-true k m e)
-    go false e =
-        let g = ltb-false k m e in
-        let f : i + m + (k - m) ≡ i + k = omega arith in
-        rw f at (b (k - m) (omega arith))
-
-module _ (u : Word) (i : ℕ) where
-  -- one byte and another behind it
-  two_bytes : get_or u i 0 < 256 → get_or u (i + 1) 0 < 256 → Bytes u i 2
-  two_bytes h k zero l = rw (add-zero i) h
-  two_bytes h k (suc zero) l = k
-  two_bytes h k (suc (suc n)) l = absurd (omega arith)
-
-  pub two_letters_lem : (a b : ℕ) → (a ≡ get_or u i 0) × (a < 256) → (b ≡ get_or u (i + 1) 0) × (b < 256) → NumberAt u i 2 (a + b * 256) × (a + b * 256 < 65536)
-  unfolding letters_number
-  two_letters_lem a b (e, h) (f, k) = (record { number = omega (arith, e, f); bytes = two_bytes (rw e at h) (rw f at k) }, omega arith)
-
-  pub four_letters : (r s : ℕ) → NumberAt u i 2 r × (r < 65536) → NumberAt u (i + 2) 2 s × (s < 65536)
-      → NumberAt u i 4 (r + s * 65536) × (r + s * 65536 < 4294967296)
-  unfolding letters_number
-  four_letters r s (a, h) (b, k) =
-      let e : i + 1 + 1 ≡ i + 2 = omega arith in
-      (record { number = rw e (omega (arith, a.number, b.number)); bytes = bytes-joined u i 2 2 a.bytes b.bytes }, omega arith)
-
-  pub eight_letters_lem : (r s : ℕ) → NumberAt u i 4 r → NumberAt u (i + 4) 4 s → NumberAt u i 8 (r + s * 4294967296)
-  unfolding letters_number
-  eight_letters_lem r s a b =
-      let e : i + 1 + 1 + 1 + 1 ≡ i + 4 = omega arith in
-      record { number = rw e (omega (arith, a.number, b.number)); bytes = bytes-joined u i 4 4 a.bytes b.bytes }
+-- eight bytes read at once are the number of eight letters
+pub eight_letters_lem : (u : Word) (i r : ℕ) → ((k : ℕ) → get_or u k 0 < 256)
+    → r ≡ from_le_bytes w64 (get_or u i 0 ∷ get_or u (i + 1) 0 ∷ get_or u (i + 2) 0 ∷ get_or u (i + 3) 0 ∷ get_or u (i + 4) 0 ∷ get_or u (i + 5) 0 ∷ get_or u (i + 6) 0 ∷ get_or u (i + 7) 0 ∷ [])
+    → NumberAt u i 8 r
+unfolding letters_number
+eight_letters_lem u i r b e =
+    let two : i + 1 + 1 ≡ i + 2 = omega arith in
+    let three : i + 2 + 1 ≡ i + 3 = omega arith in
+    let four : i + 3 + 1 ≡ i + 4 = omega arith in
+    let five : i + 4 + 1 ≡ i + 5 = omega arith in
+    let six : i + 5 + 1 ≡ i + 6 = omega arith in
+    let seven : i + 6 + 1 ≡ i + 7 = omega arith in
+    record { number = rw (two, three, four, five, six, seven) (omega (arith, e)); bytes = λ k h. b (i + k) }
 
 -- letters that are the same, each by its place
 pub same_each : (u v : Word) (n i j : ℕ) → same_for u i v j n ≡ true → (k : ℕ) → k < n → get_or u (i + k) 0 ≡ get_or v (j + k) 0

@@ -1,11 +1,13 @@
 -- Two letters beside two others: what `two_same` says of them, and that it is what their numbers say.
 use mathlib.Core.Path.{◌≡◌, refl}
 use mathlib.Core.Bool.{Bool, true, false, false≢true}
+use mathlib.Core.List.{[], ◌∷◌}
 use Prim.Native.Nat.{ℕ, ◌+◌, ◌*◌, ◌<◌}
 use native.Mathlib.Omega.{arith}
 use lib.Dec.{eqb}
 use lib.ListN.{get_or}
 use borrow.Author.Tests.{eq-eqb, ne_eqb, eqb-true, eqb-false}
+use Rattle.std.specs.Int.{w16, from_le_bytes}
 use Rattle.words.specs.Word.{Word}
 use Rattle.wordplaces.specs.TwoLetters.{two_same}
 
@@ -37,3 +39,13 @@ pub two_same_lem : (u v : Word) (i j a b c d : ℕ) → (a ≡ get_or u i 0) × 
 unfolding two_same
 two_same_lem u v i j a b c d (p, h) (q, g) (r, k) (s, l) =
     rw (p, q, r, s) (two_numbers (get_or u i 0) (get_or u (i + 1) 0) (get_or v j 0) (get_or v (j + 1) 0) (rw p at h) (rw r at k))
+
+-- two bytes read at once are the same number exactly if the letters are the same
+pub two_read_same : (u v : Word) (i j r s : ℕ) → ((k : ℕ) → get_or u k 0 < 256) → ((k : ℕ) → get_or v k 0 < 256)
+    → r ≡ from_le_bytes w16 (get_or u i 0 ∷ get_or u (i + 1) 0 ∷ []) → s ≡ from_le_bytes w16 (get_or v j 0 ∷ get_or v (j + 1) 0 ∷ [])
+    → eqb r s ≡ two_same u i v j
+two_read_same u v i j r s b c e f =
+    let p : r ≡ get_or u i 0 + get_or u (i + 1) 0 * 256 = omega (arith, e) in
+    let q : s ≡ get_or v j 0 + get_or v (j + 1) 0 * 256 = omega (arith, f) in
+    rw (p, q) (two_same_lem u v i j (get_or u i 0) (get_or u (i + 1) 0) (get_or v j 0) (get_or v (j + 1) 0)
+    (refl, b i) (refl, b (i + 1)) (refl, c j) (refl, c (j + 1)))

@@ -34,6 +34,7 @@ pub fn stands_at(b: &[u8], w: &[u8], at: usize) -> Stood
     if w.len() < at || w.len() - at < b.len() {
         return not_standing(0);
     }
+    // A `while`, as the walk is from the end in steps of two, and one letter may be left.
     let mut n = eights_left(b, w, at);
     while n > 1 {
         let k = n - 2;

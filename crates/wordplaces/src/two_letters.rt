@@ -3,16 +3,10 @@
 ghost use Rattle.std.specs.Prelude.{◌≡◌, ◌+◌, ◌<◌, length};
 ghost use Rattle.wordplaces.specs.TwoLetters.{two_same};
 
-use lists::bytes::wide_u64;
-
 // Whether the two letters of u from i on are those of v from j on: as one number each, they are read and compared at once.
 pub fn two_same(u: &[u8], i: usize, v: &[u8], j: usize) -> bool
     requires { (i + 1 < length u.now) × (j + 1 < length v.now) }
     ensures { result ≡ two_same u.now i v.now j }
 {
-    let a = wide_u64(u[i]);
-    let b = wide_u64(u[i + 1]);
-    let c = wide_u64(v[j]);
-    let d = wide_u64(v[j + 1]);
-    a + b * 256 == c + d * 256
+    u16::from_le_bytes([u[i], u[i + 1]]) == u16::from_le_bytes([v[j], v[j + 1]])
 }

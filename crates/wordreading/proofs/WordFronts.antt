@@ -10,7 +10,11 @@ use native.Mathlib.Omega.{arith}
 use lib.Dec.{eqb}
 use lib.ListN.{length, get_or, drop}
 use borrow.Author.Tests.{ne_eqb}
-use Rattle.text.proofs.Bytewise.{within_low, within_in}
+use borrow.Author.Rules.{rules}
+use Rattle.std.proofs.Common.{tests}
+use Rattle.std.specs.Prelude.{IsTrue, ◌↔◌}
+use Rattle.std.specs.Char.{is_ascii_lowercase}
+use Rattle.text.proofs.Bytewise.{within_low, within_iff, within-bounds}
 use Rattle.text.proofs.Cutting.{stop_here, stop-later, stop-end, pieces-cut, pieces_end}
 use Rattle.text.proofs.WordTexts.{write_letters, read-written-word}
 use Rattle.text.specs.Bytes.{within, all_within}
@@ -45,6 +49,10 @@ no_letters f d e = go (eqb (length f) 0) refl
 letters : (f : List ℕ) → (length f ≡ 0 → ⊥) → all_within 97 122 f ≡ true → word_of f ≡ word f
 letters f h e = rw (write_letters f h) at (read-written-word f e)
 
+-- The letters are the library's lower case letters.
+lowercase-within : (x : ℕ) → is_ascii_lowercase x ≡ within 97 122 x
+lowercase-within x = let h : IsTrue (is_ascii_lowercase x) ↔ ((97 ≤ x) × (x ≤ 122)) = search (rules, tests) in within_iff 97 122 x (is_ascii_lowercase x) h
+
 -- The letters of the piece that starts at the place at, read up to the place i: the bytes from i on say whether all are letters.
 module _ (b : ℕ) (low : b < 45) (l : List ℕ) (at i : ℕ) (h : i + stop b (drop i l) ≡ at + stop b (drop at l))
     (q : all_within 97 122 (front b (drop i l)) ≡ all_within 97 122 (front b (drop at l))) (z : get_or l at 0 ≡ 45 → ⊥) where
@@ -52,39 +60,39 @@ module _ (b : ℕ) (low : b < 45) (l : List ℕ) (at i : ℕ) (h : i + stop b (d
   pub letters-last : length l ≤ i → none_word ≡ word_then (pieces b (drop at l))
   letters-last k = word_end b l at i (sym (stop-end b l i k) ∙ h) k
 
-  -- The byte d at the place i.
-  module _ (d : ℕ) (k : i < length l) (e : d ≡ get_or l i 0) where
+  -- The byte at the place i.
+  module _ (k : i < length l) where
     -- The byte b ends the letters.
-    pub letters-ended : d ≡ b → at < i → some_word (part l at (i - at)) (pieces b (drop (i + 1) l)) ≡ word_then (pieces b (drop at l))
+    pub letters-ended : get_or l i 0 ≡ b → at < i → some_word (part l at (i - at)) (pieces b (drop (i + 1) l)) ≡ word_then (pieces b (drop at l))
     unfolding all_within
-    letters-ended w a =
-        let y : get_or l i 0 ≡ b = sym e ∙ w in
+    letters-ended y a =
         let p : i ≡ at + stop b (drop at l) = sym (stop_here b l i k y) ∙ h in
         let m : i - at ≡ stop b (drop at l) = omega arith in
         let v : all_within 97 122 (front b (drop at l)) ≡ true = sym q ∙ ap (all_within 97 122) (front_here b l i k y) in
         word_some b l at i p (part l at (i - at)) k (rw m (letters (front b (drop at l)) (rw length_front (λ x. omega arith)) v))
 
     -- There are none before it.
-    pub letters-none : d ≡ b → i ≡ at → none_word ≡ word_then (pieces b (drop at l))
+    pub letters-none : get_or l i 0 ≡ b → i ≡ at → none_word ≡ word_then (pieces b (drop at l))
     unfolding word_of
-    letters-none w a = word_none b (drop at l) (rw (← a, front_here b l i k (sym e ∙ w)))
+    letters-none w a = word_none b (drop at l) (rw (← a, front_here b l i k w))
 
     -- A byte that is no letter and does not end them.
-    pub letters_broken : (d ≡ b → ⊥) → within 97 122 d ≡ false → none_word ≡ word_then (pieces b (drop at l))
+    pub letters_broken : (get_or l i 0 ≡ b → ⊥) → is_ascii_lowercase (get_or l i 0) ≡ false → none_word ≡ word_then (pieces b (drop at l))
     unfolding all_within
     letters_broken s w =
-        let x : within 97 122 (get_or l i 0) ≡ false = rw e at w in
-        let v : all_within 97 122 (front b (drop at l)) ≡ false = sym q ∙ rw (front-later b l i k (λ y. s (e ∙ y)), all_within, x) in
+        let x : within 97 122 (get_or l i 0) ≡ false = sym (lowercase-within (get_or l i 0)) ∙ w in
+        let v : all_within 97 122 (front b (drop at l)) ≡ false = sym q ∙ rw (front-later b l i k s, all_within, x) in
         word_none b (drop at l) (no_letters (front b (drop at l)) (not_dash (front b (drop at l)) (front_not_first b l at 45 (λ y. omega arith) z)) v)
 
     -- One letter more.
-    pub letters-more : 97 ≤ d → d ≤ 122
+    pub letters-more : is_ascii_lowercase (get_or l i 0) ≡ true
         → (i + 1 + stop b (drop (i + 1) l) ≡ at + stop b (drop at l)) × (all_within 97 122 (front b (drop (i + 1) l)) ≡ all_within 97 122 (front b (drop at l)))
     unfolding all_within
-    letters-more lo hi =
+    letters-more w =
+        let x : within 97 122 (get_or l i 0) ≡ true = sym (lowercase-within (get_or l i 0)) ∙ w in
+        let lo = (within-bounds 97 122 (get_or l i 0) x).0 in
         let s : get_or l i 0 ≡ b → ⊥ = λ y. omega arith in
-        let w : within 97 122 (get_or l i 0) ≡ true = within_in 97 122 (get_or l i 0) (omega arith) (omega arith) in
-        (stop-later b l i k s ∙ h, rw (front-later b l i k s, all_within, w) at q)
+        (stop-later b l i k s ∙ h, rw (front-later b l i k s, all_within, x) at q)
 
 -- A field that starts with `-`: it is the empty word if it has no other byte.
 word_dash : (x : ℕ) → x ≡ 45 → word_of (x ∷ []) ≡ word []

@@ -2,98 +2,104 @@
 // `inner_word` wants another field behind its own, `last_word` wants none.
 
 ghost use Rattle.std.specs.Prelude.{◌≡◌, ℕ, ◌+◌, ◌≤◌, ◌<◌, length, get_or, drop};
-ghost use Rattle.text.specs.Pieces.{fields};
+ghost use Rattle.text.specs.Pieces.{fields, pieces};
 ghost use Rattle.text.specs.Word.{is_dash, word_of};
 ghost use Rattle.text.specs.Field.{word_then, word_last};
-ghost use Rattle.text.specs.Answers.{seen_word, len_word, seen_word_at, next_word, span_word};
+ghost use Rattle.text.specs.Answers.{seen_word, len_word, seen_word_at, seen_word_until, next_word, span_word};
 
-use fieldreading::space::is_space_at;
-use lists::bytes::wide;
+use fieldreading::ending::ends_at;
+use text::WordAt;
 use text::bytes::all_within;
-use text::{WordAt, WordLen};
+
+// The empty word as it is written.
+const DASH: &[u8] = b"-";
 
 // Whether a field is `-`.
+#[tactic(auto, unfolding(text::specs::Word::is_dash))]
 fn is_dash(f: &[u8]) -> bool
     ensures { result ≡ is_dash f.now }
 {
-    if f.len() == 1 {
-        return f[0] == b'-';
-    }
-    false
+    f == DASH
 }
 
 // The word that a field says.
-pub fn read_word(f: &[u8]) -> WordLen
+pub fn read_word(f: &[u8]) -> Option<usize>
     ensures result_value { seen_word f.now result ≡ word_of f.now }
     ensures result_in_bounds { len_word result ≤ length f.now }
 {
     if f.len() == 0 {
-        return WordLen::Misshapen;
+        return None;
     }
     if is_dash(f) {
-        return WordLen::Letters(0);
+        return Some(0);
     }
     if all_within(97, 122, f) {
-        return WordLen::Letters(f.len());
+        return Some(f.len());
     }
-    WordLen::Misshapen
+    None
 }
 
-// The letters of the field that starts at the place at, another field behind it: the first byte is not `-`.
-fn inner_letters(l: &[u8], at: usize) -> WordAt
-    requires at_in_bounds { at < length l.now }
-    requires fact { get_or l.now at 0 ≡ 45 → ⊥ }
-    ensures result_value { seen_word_at l.now at result ≡ word_then (fields (drop at l.now)) }
-    ensures result_in_bounds { next_word result ≤ length l.now }
-    ensures result_in_bounds_2 { at + span_word result ≤ length l.now }
+// The letters from the place at on, which the byte END ends: the first byte is not `-`.
+fn letters_until<const END: u8>(s: &[u8], at: usize) -> Option<WordAt>
+    requires low { END < 45 }
+    requires at_in_bounds { at < length s.now }
+    requires fact { get_or s.now at 0 ≡ 45 → ⊥ }
+    ensures result_value { seen_word_until END s.now at result ≡ word_then (pieces END (drop at s.now)) }
+    ensures result_in_bounds { next_word result ≤ length s.now }
+    ensures result_in_bounds_2 { at + span_word result ≤ length s.now }
 {
-    let mut i = at;
-    while i < l.len() {
-        let b = wide(l[i]);
-        if b == 32 {
-            if i == at {
-                return WordAt::Misshapen;
+    for i in at..s.len() {
+        let b = s[i];
+        if !b.is_ascii_lowercase() {
+            if b != END || i == at {
+                return None;
             }
-            return WordAt::Spans {
+            return Some(WordAt {
                 len: i - at,
                 next: i + 1,
-            };
+            });
         }
-        if b < 97 {
-            return WordAt::Misshapen;
-        }
-        if 122 < b {
-            return WordAt::Misshapen;
-        }
-        i += 1;
     }
-    WordAt::Misshapen
+    None
+}
+
+// The word from the place at on, which the byte END ends, and the place behind that byte.
+pub fn word_until<const END: u8>(s: &[u8], at: usize) -> Option<WordAt>
+    requires positive { 0 < END }
+    requires low { END < 45 }
+    requires at_in_bounds { at ≤ length s.now }
+    ensures result_value { seen_word_until END s.now at result ≡ word_then (pieces END (drop at s.now)) }
+    ensures result_in_bounds { next_word result ≤ length s.now }
+    ensures result_in_bounds_2 { at + span_word result ≤ length s.now }
+{
+    if s.len() <= at {
+        return None;
+    }
+    if s[at] != b'-' {
+        return letters_until::<END>(s, at);
+    }
+    if ends_at(s, at + 1, END) {
+        return Some(WordAt {
+            len: 0,
+            next: at + 2,
+        });
+    }
+    None
 }
 
 // The word in the field that starts at the place at, another field behind it.
-pub fn inner_word(l: &[u8], at: usize) -> WordAt
+#[tactic(auto, unfolding(text::specs::Answers::seen_word_at))]
+pub fn inner_word(l: &[u8], at: usize) -> Option<WordAt>
     requires { at ≤ length l.now }
     ensures result_value { seen_word_at l.now at result ≡ word_then (fields (drop at l.now)) }
     ensures result_in_bounds { next_word result ≤ length l.now }
     ensures result_in_bounds_2 { at + span_word result ≤ length l.now }
 {
-    if l.len() <= at {
-        return WordAt::Misshapen;
-    }
-    if l[at] != 45 {
-        return inner_letters(l, at);
-    }
-    if is_space_at(l, at + 1) {
-        return WordAt::Spans {
-            len: 0,
-            next: at + 2,
-        };
-    }
-    WordAt::Misshapen
+    word_until::<b' '>(l, at)
 }
 
 // The word in the last field, which starts at the place at: bytes with a space among them say no word.
-pub fn last_word(l: &[u8], at: usize) -> WordLen
+pub fn last_word(l: &[u8], at: usize) -> Option<usize>
     requires { at ≤ length l.now }
     ensures result_value { seen_word (drop at l.now) result ≡ word_last (fields (drop at l.now)) }
     ensures result_in_bounds { at + len_word result ≤ length l.now }

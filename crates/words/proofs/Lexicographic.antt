@@ -6,18 +6,20 @@ use Prim.Native.Nat.{ℕ, ◌≤◌, ◌<◌}
 use native.Mathlib.Decide.{dec_lt}
 use native.Mathlib.Omega.{arith}
 use borrow.Author.Tests.{lt-ltb, le-ltb}
-use Rattle.words.specs.declared.Comparison.{Comparison}
-use Rattle.words.specs.declared.Comparison.TheVariants.{Below, Equal, Above}
+use Rattle.std.specs.declared.cmp.Ordering.{Ordering}
+use Rattle.std.specs.declared.cmp.Ordering.TheVariants.{Less, Equal, Greater}
+use Rattle.std.specs.Ordering.{nat_cmp, MatchOrdering}
+use Rattle.std.proofs.lemmas.Cmp.{ranked}
 use Rattle.words.specs.Word.{Word}
 use Rattle.words.specs.Order.{by_number_of, by_letters}
 
 -- the greater number decides
-module _ {m n : ℕ} (c : Comparison) where
-  pub number-less : m < n → by_number_of m n c ≡ Below
+module _ {m n : ℕ} (c : Ordering) where
+  pub number-less : m < n → by_number_of m n c ≡ Less
   unfolding by_number_of
   number-less h = rw (by_number_of, lt-ltb m n h)
 
-  pub number-greater : n < m → by_number_of m n c ≡ Above
+  pub number-greater : n < m → by_number_of m n c ≡ Greater
   unfolding by_number_of
   number-greater h = let k : n ≤ m = omega arith in rw (by_number_of, le-ltb m n k, lt-ltb n m h)
 
@@ -27,6 +29,15 @@ module _ {m n : ℕ} (c : Comparison) where
       let k : n ≤ m = omega arith in
       let l : m ≤ n = omega arith in
       rw (by_number_of, le-ltb m n k, le-ltb n m l)
+
+-- what `cmp` answers of two numbers that differ is what they decide
+pub number_cmp : {a b : ℕ} {r : Ordering} (c : Ordering) → r ≡ nat_cmp a b → (a ≡ b → ⊥) → r ≡ by_number_of a b c
+number_cmp {a} {b} {r} c e n = go r refl (ranked a b r e)
+  where
+    go : (o : Ordering) → r ≡ o → MatchOrdering o (a < b) (a ≡ b) (b < a) → r ≡ by_number_of a b c
+    go Less p l = p ∙ sym (number-less c l)
+    go Equal p same = absurd (n same)
+    go Greater p l = p ∙ sym (number-greater c l)
 
 module _ (rank : ℕ → ℕ) where
   -- u comes before v: it ends first, or has the lower letter at the first difference
@@ -62,9 +73,9 @@ module _ (rank : ℕ → ℕ) where
   -- each answer of the comparison, with what it means
   abbrev pub LetterCases : Word → Word → Type 0
   LetterCases u v =
-      ((by_letters rank u v ≡ Below) × Lex u v)
+      ((by_letters rank u v ≡ Less) × Lex u v)
       ⊎ (((by_letters rank u v ≡ Equal) × (u ≡ v))
-      ⊎ ((by_letters rank u v ≡ Above) × Lex v u))
+      ⊎ ((by_letters rank u v ≡ Greater) × Lex v u))
 
   module _ (own : (a b : ℕ) → rank a ≡ rank b → a ≡ b) where
     pub letter-cases : (u v : Word) → LetterCases u v

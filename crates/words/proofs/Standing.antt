@@ -10,8 +10,7 @@ use lib.ListN.{length, get_or, take, drop, length-append, take-append-drop, get_
 use lib.Seq.{length-take-le, get_or-append-add}
 use borrow.Author.Tests.{eq-eqb, eqb-true}
 use Rattle.lists.proofs.Bools.{not_true}
-use Rattle.words.specs.declared.Found.{Found}
-use Rattle.words.specs.declared.Found.TheVariants.{At, Nowhere}
+use Rattle.std.specs.Prelude.{Option, None, Some}
 use Rattle.words.specs.Word.{Word, around}
 use Rattle.words.specs.Place.{Stands, begins, stands_at, leftmost_from, leftmost}
 
@@ -76,9 +75,9 @@ pub stands-empty : (w : Word) (i : ℕ) → i ≤ length w → Stands [] w i
 stands-empty w i h = record { left = take i w; right = drop i w; place = length-take-le i w h; fits = take-append-drop i w }
 
 -- the answer of the search from place k on
-First : Word → Word → ℕ → Found → Type 0
-First b w k Nowhere = (i : ℕ) → stands_at b w i ≡ false
-First b w k (At n) = (i : ℕ) × (n ≡ k + i) × (stands_at b w i ≡ true) × ((j : ℕ) → j < i → stands_at b w j ≡ false)
+First : Word → Word → ℕ → Option ℕ → Type 0
+First b w k None = (i : ℕ) → stands_at b w i ≡ false
+First b w k (Some n) = (i : ℕ) × (n ≡ k + i) × (stands_at b w i ≡ true) × ((j : ℕ) → j < i → stands_at b w j ≡ false)
 
 first_from : (b w : Word) (k : ℕ) → First b w k (leftmost_from b w k)
 unfolding First leftmost_from stands_at
@@ -88,38 +87,38 @@ first_from b [] k = go (begins b []) refl
     none e zero = e
     none e (suc i) = refl
 
-    go : (t : Bool) → begins b [] ≡ t → First b [] k (elim t [ true ↦ At k | false ↦ Nowhere ])
+    go : (t : Bool) → begins b [] ≡ t → First b [] k (elim t [ true ↦ Some k | false ↦ None ])
     go true e = (0, omega arith, e, λ j h. absurd (omega arith))
     go false e = none e
 first_from b (a ∷ w) k = go (begins b (a ∷ w)) refl (leftmost_from b w (suc k)) (first_from b w (suc k))
   where
-    moved : begins b (a ∷ w) ≡ false → (o : Found) → First b w (suc k) o → First b (a ∷ w) k o
-    moved e Nowhere f = none
+    moved : begins b (a ∷ w) ≡ false → (o : Option ℕ) → First b w (suc k) o → First b (a ∷ w) k o
+    moved e None f = none
       where
         none : (i : ℕ) → stands_at b (a ∷ w) i ≡ false
         none zero = e
         none (suc i) = f i
-    moved e (At n) (i, p, q, r) = (suc i, omega arith, q, before)
+    moved e (Some n) (i, p, q, r) = (suc i, omega arith, q, before)
       where
         before : (j : ℕ) → j < suc i → stands_at b (a ∷ w) j ≡ false
         before zero h = e
         before (suc j) h = r j (omega arith)
 
-    go : (t : Bool) → begins b (a ∷ w) ≡ t → (o : Found) → First b w (suc k) o → First b (a ∷ w) k (elim t [ true ↦ At k | false ↦ o ])
+    go : (t : Bool) → begins b (a ∷ w) ≡ t → (o : Option ℕ) → First b w (suc k) o → First b (a ∷ w) k (elim t [ true ↦ Some k | false ↦ o ])
     go true e o f = (0, omega arith, e, λ j h. absurd (omega arith))
     go false e o f = moved e o f
 
 -- an answer is the leftmost place where b stands in w
-pub leftmost_at : (b w : Word) (i : ℕ) → leftmost b w ≡ At i → Stands b w i × ((j : ℕ) → j < i → Stands b w j → ⊥)
+pub leftmost_at : (b w : Word) (i : ℕ) → leftmost b w ≡ Some i → Stands b w i × ((j : ℕ) → j < i → Stands b w j → ⊥)
 unfolding leftmost First
 leftmost_at b w i e = go (rw e at (first_from b w 0))
   where
-    go : First b w 0 (At i) → Stands b w i × ((j : ℕ) → j < i → Stands b w j → ⊥)
+    go : First b w 0 (Some i) → Stands b w i × ((j : ℕ) → j < i → Stands b w j → ⊥)
     go (k, p, q, r) =
         let z : k ≡ i = omega arith in
         (rw z at ((stands_iff b w k).0 q), λ j h. not_stands b w j (r j (omega arith)))
 
 -- no answer: b stands nowhere in w
-pub leftmost-nowhere : (b w : Word) → leftmost b w ≡ Nowhere → (i : ℕ) → Stands b w i → ⊥
+pub leftmost-nowhere : (b w : Word) → leftmost b w ≡ None → (i : ℕ) → Stands b w i → ⊥
 unfolding leftmost First
-leftmost-nowhere b w e i = let f : First b w 0 Nowhere = rw e at (first_from b w 0) in not_stands b w i (f i)
+leftmost-nowhere b w e i = let f : First b w 0 None = rw e at (first_from b w 0) in not_stands b w i (f i)

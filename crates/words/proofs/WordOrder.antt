@@ -7,13 +7,13 @@ use native.Mathlib.Decide.{dec_lt}
 use native.Mathlib.Omega.{arith}
 use lib.ListN.{length, get_or}
 use borrow.Author.Tests.{lt-ltb, le-ltb}
-use Rattle.words.specs.declared.Comparison.TheVariants.{Below}
+use Rattle.std.specs.declared.cmp.Ordering.TheVariants.{Less}
 use Rattle.lists.specs.All.{All, ◌also◌}
 use Rattle.words.specs.Word.{Word}
 use Rattle.words.specs.Order.{Admissible, FirstDiffers, IsBelow, letter_rank, word_order}
 use Rattle.words.specs.Weighted.{Proper, weight, weighted_order, unit_weighing}
 use Rattle.words.proofs.Lexicographic.{Lex}
-use Rattle.words.proofs.WeightedOrder.{Less, less_of_lt, lt_of_less, weighted_admissible}
+use Rattle.words.proofs.WeightedOrder.{Precedes, less_of_lt, lt_of_less, weighted_admissible}
 
 rank_byte : (a : ℕ) → a < 256 → letter_rank a ≡ 255 - a
 unfolding letter_rank
@@ -83,20 +83,20 @@ lex_of_first (x ∷ u) (y ∷ v) (hx also hu) (hy also hv) (suc k) h e b l =
     inr (b 0 (omega arith), lex_of_first u v hu hv k (omega arith) (omega arith) (λ i q. b (suc i) (omega arith)) l)
 
 -- On words of bytes the computed order says below exactly where 01 does.
-pub below_iff : (u v : Word) → All (λ a. a < 256) u → All (λ a. a < 256) v → (word_order u v ≡ Below) ↔ IsBelow u v
-unfolding Less unit_weighing
+pub below_iff : (u v : Word) → All (λ a. a < 256) u → All (λ a. a < 256) v → (word_order u v ≡ Less) ↔ IsBelow u v
+unfolding Precedes unit_weighing
 below_iff u v hu hv = (
   λ e. from (less_of_lt unit_weighing unit_proper u v (word-order_weighted u v ∙ e)),
   λ b. sym (word-order_weighted u v) ∙ lt_of_less unit_weighing unit_proper u v (to b),
 )
   where
-    from : Less unit_weighing u v → IsBelow u v
+    from : Precedes unit_weighing u v → IsBelow u v
     from (inl p) = inl (omega (arith, unit_weight u, unit_weight v))
     from (inr p) =
         let e : length u ≡ length v = sym (unit_weight u) ∙ p.0 ∙ unit_weight v in
         inr (e, first_of_lex u v hu hv e p.1)
 
-    to : IsBelow u v → Less unit_weighing u v
+    to : IsBelow u v → Precedes unit_weighing u v
     to (inl p) = inl (omega (arith, unit_weight u, unit_weight v))
     to (inr p) =
         let d = p.1 in

@@ -1,23 +1,23 @@
 -- Orders of the words: what an admissible order is, and document 01's order.
 use Rattle.std.specs.Prelude.{◌≡◌, true, false, ◌⊎◌, [], ◌∷◌, ◌++◌, ℕ, ◌-◌, ◌<◌, ltb, length, get_or}
 use mathlib.Core.WellFounded.{Acc}
-use Rattle.words.specs.declared.Comparison.{Comparison}
-use Rattle.words.specs.declared.Comparison.TheVariants.{Below, Equal, Above}
+use Rattle.std.specs.declared.cmp.Ordering.{Ordering}
+use Rattle.std.specs.declared.cmp.Ordering.TheVariants.{Less, Equal, Greater}
 use Rattle.words.specs.Word.{Word}
 
 -- An order says of any two words how the first stands to the second.
 abbrev pub Order : Type 0
-Order = Word → Word → Comparison
+Order = Word → Word → Ordering
 
 -- u is below v.
 abbrev pub Lt : Order → Word → Word → Type 0
-Lt O u v = O u v ≡ Below
+Lt O u v = O u v ≡ Less
 
 -- How the second word stands to the first, where the first stands so to the second.
-unfoldable pub opposite : Comparison → Comparison
-opposite Below = Above
+unfoldable pub opposite : Ordering → Ordering
+opposite Less = Greater
 opposite Equal = Equal
-opposite Above = Below
+opposite Greater = Less
 
 -- An admissible order (source document 002, definition 3.1.1, with 3.3.4 for `wf`): total, respected by products on both sides, and with no endless fall.
 pub record Admissible (O : Order) : Type 0 where
@@ -46,15 +46,15 @@ unfoldable pub letter_rank : ℕ → ℕ
 letter_rank a = elim (ltb a 256) [ true ↦ 255 - a | false ↦ a ]
 
 -- The greater number decides; where the two are equal, c does.
-unfoldable pub by_number_of : ℕ → ℕ → Comparison → Comparison
-by_number_of m n c = elim (ltb m n) [ true ↦ Below | false ↦ elim (ltb n m) [ true ↦ Above | false ↦ c ] ]
+unfoldable pub by_number_of : ℕ → ℕ → Ordering → Ordering
+by_number_of m n c = elim (ltb m n) [ true ↦ Less | false ↦ elim (ltb n m) [ true ↦ Greater | false ↦ c ] ]
 
 -- The first differing letter decides: that of higher rank is greater. (A word that the other goes on from is lower.)
 unfoldable pub by_letters : (ℕ → ℕ) → Order
 unfolding by_number_of
 by_letters rank [] [] = Equal
-by_letters rank [] (b ∷ v) = Below
-by_letters rank (a ∷ u) [] = Above
+by_letters rank [] (b ∷ v) = Less
+by_letters rank (a ∷ u) [] = Greater
 by_letters rank (a ∷ u) (b ∷ v) = by_number_of (rank a) (rank b) (by_letters rank u v)
 
 -- Document 01's order.

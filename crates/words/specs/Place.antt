@@ -1,7 +1,5 @@
 -- Where a word stands in another, and how many letters are compared to say so.
-use Rattle.std.specs.Prelude.{◌≡◌, Bool, true, false, [], ◌∷◌, ◌++◌, ℕ, zero, suc, ◌+◌, ◌<◌, eqb, leb, length, get_or}
-use Rattle.words.specs.declared.Found.{Found}
-use Rattle.words.specs.declared.Found.TheVariants.{At, Nowhere}
+use Rattle.std.specs.Prelude.{Option, None, Some, ◌≡◌, Bool, true, false, [], ◌∷◌, ◌++◌, ℕ, zero, suc, ◌+◌, ◌<◌, eqb, leb, length, get_or}
 use Rattle.words.specs.Word.{Word, around}
 
 -- b stands in w at place i: w is left × b × right, either side possibly empty, and left has i letters.
@@ -54,12 +52,12 @@ pub record OnlyFirstDiffers (b w : Word) (i : ℕ) : Type 0 where
   pub differs : x ≡ y → ⊥
 
 -- The leftmost place of b in w, where w's first letter has place i.
-unfoldable pub leftmost_from : Word → Word → ℕ → Found
+unfoldable pub leftmost_from : Word → Word → ℕ → Option ℕ
 unfolding begins
-leftmost_from b [] i = elim (begins b []) [ true ↦ At i | false ↦ Nowhere ]
-leftmost_from b (a ∷ w) i = elim (begins b (a ∷ w)) [ true ↦ At i | false ↦ leftmost_from b w (suc i) ]
+leftmost_from b [] i = elim (begins b []) [ true ↦ Some i | false ↦ None ]
+leftmost_from b (a ∷ w) i = elim (begins b (a ∷ w)) [ true ↦ Some i | false ↦ leftmost_from b w (suc i) ]
 
 -- The leftmost place of b in w.
-unfoldable pub leftmost : Word → Word → Found
+unfoldable pub leftmost : Word → Word → Option ℕ
 unfolding leftmost_from
 leftmost b w = leftmost_from b w 0

@@ -1,18 +1,3 @@
 // Words: their orders, and where one stands in another, as definitions and laws. Crates wordorder and wordplaces have the functions on letters,
 // crate packing those on packed words. A word is a slice of its letters, the bytes `a` to `z`; the empty word has none.
 #![tactic(auto)]
-
-// How one word stands to another in an order of the words.
-#[derive(Clone, Copy)]
-pub enum Comparison {
-    Below,
-    Equal,
-    Above,
-}
-
-// The first place where something stands, or none.
-#[derive(Clone, Copy)]
-pub enum Found {
-    At(usize),
-    Nowhere,
-}

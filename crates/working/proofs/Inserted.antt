@@ -6,7 +6,7 @@ use Prim.Native.Nat.{ℕ, ◌-◌, ◌≤◌, ◌<◌}
 use native.Mathlib.Decide.{dec_lt}
 use native.Mathlib.Omega.{arith}
 use Rattle.field.specs.Field.{Operations}
-use Rattle.words.specs.declared.Comparison.TheVariants.{Equal, Above}
+use Rattle.std.specs.declared.cmp.Ordering.TheVariants.{Equal, Greater}
 use Rattle.words.specs.Order.{Order, Lt}
 use Rattle.algebra.specs.Poly.{Term, Poly}
 use Rattle.algebra.specs.Written.{put, insert}
@@ -32,7 +32,7 @@ module _ (K : Operations) (O : Order) (t : Term) (F : ℕ → Term) (n k : ℕ) 
       ∙ ap (λ (f : Poly). terms F 0 k ++ f) (ap (insert K O t) (terms-next F k n h) ∙ insert-onto K O t (F k) _ e)
 
   -- and above the others
-  module _ (h : k ≤ n) (next : k < n → O t.word (F k).word ≡ Above) where
+  module _ (h : k ≤ n) (next : k < n → O t.word (F k).word ≡ Greater) where
     insert-first : insert K O t (terms F k (n - k)) ≡ put K t.coef t.word (terms F k (n - k))
     insert-first = go (dec_lt k n)
       where

@@ -8,13 +8,7 @@ pub fn rotate_right(a: &mut [u16], k: usize, n: usize)
     requires { (k ≤ n) × (n < length a.old) }
     ensures { Moved (rotated_right k n) a.old a.new }
 {
-    let x = a[n];
-    let mut i = n;
-    while k < i {
-        a[i] = a[i - 1];
-        i -= 1;
-    }
-    a[k] = x;
+    a[k..=n].rotate_right(1);
 }
 
 // Entry k goes to m, and those behind it, up to m, one to the left.
@@ -22,11 +16,5 @@ pub fn rotate_left(a: &mut [u16], k: usize, m: usize)
     requires { (k ≤ m) × (m < length a.old) }
     ensures { Moved (rotated_left k m) a.old a.new }
 {
-    let x = a[k];
-    let mut i = k;
-    while i < m {
-        a[i] = a[i + 1];
-        i += 1;
-    }
-    a[m] = x;
+    a[k..=m].rotate_left(1);
 }

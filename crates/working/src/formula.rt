@@ -8,9 +8,7 @@ pub fn start(o: &mut [u16])
     requires { length o.old ≤ 65536 }
     ensures { Arranged o.new }
 {
-    let mut i = 0;
-    while i < o.len() {
-        o[i] = i as u16;
-        i += 1;
+    for (i, place) in o.iter_mut().enumerate() {
+        *place = i as u16;
     }
 }

@@ -7,10 +7,3 @@
 
 pub mod entries;
 pub mod formula;
-
-// Where a word belongs among others, and whether it is present there.
-#[derive(Clone, Copy)]
-pub struct Position {
-    pub index: usize,
-    pub present: bool,
-}

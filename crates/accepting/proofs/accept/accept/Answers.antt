@@ -1,67 +1,74 @@
 -- `accept` reads, judges the basis, fills the table, and checks the package that the table holds.
-use mathlib.Core.Path.{◌≡◌}
+use mathlib.Core.Path.{refl, sym}
 use native.Mathlib.Omega.{arith}
-use lib.ListN.{length}
+use Rattle.std.proofs.lemmas.Result.{err_from_is_err_and}
 use Rattle.package.specs.Held.{seen_all}
 use Rattle.acceptance.proofs.FirstZero.{fine-nonzero}
-use Rattle.basis.proofs.BasisAnswers.{basis-refused, basis_sound, heads_sound}
+use Rattle.basis.specs.Answer.{verdict_of, HeadsWhere}
 use Rattle.accepting.specs.Accepted.{Accepts}
-use Rattle.accepting.proofs.PackageRead.{PackageRead, answered, unread_refused}
-use Rattle.accepting.proofs.PackageTable.{TableHolds, unsound_refused, begins_in, heads_in, rejected_refused, accepted-taken}
+use Rattle.accepting.proofs.PackageRead.{answered, unread_refused}
+use Rattle.accepting.proofs.PackageTable.{TableHolds, unsound_refused, begins_in, heads_in, checked_accepts}
 use Rattle.accepting.proofs.accept.accept.Goals as goal
 
-pub judge_basis-b-requires : goal.judge_basis-b-requires
-judge_basis-b-requires c =
-    let is_read : PackageRead c.args.«package».now c.read_package-r.new.coefs c.read_package-r.new.starts c.read_package-r.new.lens c.read_package-r.new.firsts c.in-Whole.head c.in-Whole.terms c.in-Whole.at c.in-Whole.line = let t = c.read_package-r.ensures in
-    let lc : length c.read_package-r.new.coefs ≡ 1024 = omega (arith, c.read_package-r.auto.coefs) in
-    let lo : length c.read_package-r.new.starts ≡ 1024 = omega (arith, c.read_package-r.auto.starts) in
-    let ll : length c.read_package-r.new.lens ≡ 1024 = omega (arith, c.read_package-r.auto.lens) in
-    let lf : length c.read_package-r.new.firsts ≡ 98 = omega (arith, c.read_package-r.auto.firsts) in
-    answered _ c.read_package-r.new.kinds c.read_package-r.new.items _ _ _ _ _ _ _ _ _ c.in-Whole.is t.result_after t.result_bound t.result_bound_2 t.result_in_bounds t.firsts_held lc lo ll lf in
-    let r = is_read in
+pub returns-in_err-read : goal.returns-in_err-read
+unfolding Accepts seen_all
+returns-in_err-read c =
+    let e = c.in_err-read.ensures.result_after in
+    let p = err_from_is_err_and c.from_residual.result c.from_residual.ensures.1 in
+    rw (p.1, p.2) (unread_refused c.args.«package».now _ _ e)
+
+pub judge_basis-requires : goal.judge_basis-requires
+judge_basis-requires c =
+    let read = c.read_package.ensures in
+    let auto = c.read_package.auto in
+    let is_read = answered _ c.read_package.new.kinds c.read_package.new.items _ _ _ _ _ _ _ _ _ c.in_ok-read.was read.result_after read.result_bound read.result_bound_2 read.result_in_bounds read.firsts_held (omega (arith, auto.coefs)) (omega (arith, auto.starts)) (omega (arith, auto.lens)) (omega (arith, auto.firsts)) in
     record {
-      basis_lies = record { p = _; m = _; terms = r.lies.terms; runs = r.lies.basis-runs };
+      basis_lies = record { p = _; m = _; terms = is_read.lies.terms; runs = is_read.lies.basis-runs };
       count_in_bounds = (omega arith, omega arith);
     }
 
-pub returns-in-Unsound : goal.returns-in-Unsound
-unfolding Accepts
-returns-in-Unsound c =
-    let is_read : PackageRead c.args.«package».now c.read_package-r.new.coefs c.read_package-r.new.starts c.read_package-r.new.lens c.read_package-r.new.firsts c.in-Whole.head c.in-Whole.terms c.in-Whole.at c.in-Whole.line = let t = c.read_package-r.ensures in
-    let lc : length c.read_package-r.new.coefs ≡ 1024 = omega (arith, c.read_package-r.auto.coefs) in
-    let lo : length c.read_package-r.new.starts ≡ 1024 = omega (arith, c.read_package-r.auto.starts) in
-    let ll : length c.read_package-r.new.lens ≡ 1024 = omega (arith, c.read_package-r.auto.lens) in
-    let lf : length c.read_package-r.new.firsts ≡ 98 = omega (arith, c.read_package-r.auto.firsts) in
-    answered _ c.read_package-r.new.kinds c.read_package-r.new.items _ _ _ _ _ _ _ _ _ c.in-Whole.is t.result_after t.result_bound t.result_bound_2 t.result_in_bounds t.firsts_held lc lo ll lf in
-    record {
-      accepts = unsound_refused (is_read) _ _ (basis-refused _ _ c.judge_basis-b.ensures.result_value _ _ c.in-Unsound.is);
-      room = c.requires.1;
-    }
+pub returns-in_err-judge_basis : goal.returns-in_err-judge_basis
+unfolding Accepts verdict_of
+returns-in_err-judge_basis c =
+    let read = c.read_package.ensures in
+    let auto = c.read_package.auto in
+    let is_read = answered _ c.read_package.new.kinds c.read_package.new.items _ _ _ _ _ _ _ _ _ c.in_ok-read.was read.result_after read.result_bound read.result_bound_2 read.result_in_bounds read.firsts_held (omega (arith, auto.coefs)) (omega (arith, auto.starts)) (omega (arith, auto.lens)) (omega (arith, auto.firsts)) in
+    let p = err_from_is_err_and c.from_residual-in_err-judge_basis.result c.from_residual-in_err-judge_basis.ensures.1 in
+    rw (p.1, p.2) (unsound_refused is_read _ _ (sym c.in_err-judge_basis.ensures.result_value))
 
 pub tabulate-requires : goal.tabulate-requires
+unfolding verdict_of
 tabulate-requires c =
-    let is_read : PackageRead c.args.«package».now c.read_package-r.new.coefs c.read_package-r.new.starts c.read_package-r.new.lens c.read_package-r.new.firsts c.in-Whole.head c.in-Whole.terms c.in-Whole.at c.in-Whole.line = let t = c.read_package-r.ensures in
-    let lc : length c.read_package-r.new.coefs ≡ 1024 = omega (arith, c.read_package-r.auto.coefs) in
-    let lo : length c.read_package-r.new.starts ≡ 1024 = omega (arith, c.read_package-r.auto.starts) in
-    let ll : length c.read_package-r.new.lens ≡ 1024 = omega (arith, c.read_package-r.auto.lens) in
-    let lf : length c.read_package-r.new.firsts ≡ 98 = omega (arith, c.read_package-r.auto.firsts) in
-    answered _ c.read_package-r.new.kinds c.read_package-r.new.items _ _ _ _ _ _ _ _ _ c.in-Whole.is t.result_after t.result_bound t.result_bound_2 t.result_in_bounds t.firsts_held lc lo ll lf in
-    let sound = basis_sound _ _ c.judge_basis-b.ensures.result_value c.in_default.is in
+    let read = c.read_package.ensures in
+    let auto = c.read_package.auto in
+    let is_read = answered _ c.read_package.new.kinds c.read_package.new.items _ _ _ _ _ _ _ _ _ c.in_ok-read.was read.result_after read.result_bound read.result_bound_2 read.result_in_bounds read.firsts_held (omega (arith, auto.coefs)) (omega (arith, auto.starts)) (omega (arith, auto.lens)) (omega (arith, auto.firsts)) in
     record {
-      t_len = c.requires.0;
-      lies = (is_read).lies;
-      none_zero = fine-nonzero _ sound;
+      t_len = c.requires;
+      lies = is_read.lies;
+      none_zero = fine-nonzero _ (sym c.in_ok-judge_basis.ensures.result_value);
     }
 
-pub check-s-requires : goal.check-s-requires
-check-s-requires c =
-    let is_read : PackageRead c.args.«package».now c.read_package-r.new.coefs c.read_package-r.new.starts c.read_package-r.new.lens c.read_package-r.new.firsts c.in-Whole.head c.in-Whole.terms c.in-Whole.at c.in-Whole.line = let t = c.read_package-r.ensures in
-    let lc : length c.read_package-r.new.coefs ≡ 1024 = omega (arith, c.read_package-r.auto.coefs) in
-    let lo : length c.read_package-r.new.starts ≡ 1024 = omega (arith, c.read_package-r.auto.starts) in
-    let ll : length c.read_package-r.new.lens ≡ 1024 = omega (arith, c.read_package-r.auto.lens) in
-    let lf : length c.read_package-r.new.firsts ≡ 98 = omega (arith, c.read_package-r.auto.firsts) in
-    answered _ c.read_package-r.new.kinds c.read_package-r.new.items _ _ _ _ _ _ _ _ _ c.in-Whole.is t.result_after t.result_bound t.result_bound_2 t.result_in_bounds t.firsts_held lc lo ll lf in
-    let holds : TableHolds c.args.«package».now c.read_package-r.new.coefs c.read_package-r.new.starts c.read_package-r.new.lens c.read_package-r.new.firsts c.in-Whole.head c.tabulate.new.t = let e = c.tabulate.ensures in
+pub invariant_of-words : goal.invariant_of-words
+unfolding HeadsWhere
+invariant_of-words c =
+    let read = c.read_package.ensures in
+    let auto = c.read_package.auto in
+    let is_read = answered _ c.read_package.new.kinds c.read_package.new.items _ _ _ _ _ _ _ _ _ c.in_ok-read.was read.result_after read.result_bound read.result_bound_2 read.result_in_bounds read.firsts_held (omega (arith, auto.coefs)) (omega (arith, auto.starts)) (omega (arith, auto.lens)) (omega (arith, auto.firsts)) in
+    let H = c.in_ok-judge_basis.ensures.heads_where in
+    record {
+      laid = H.laid;
+      few = omega arith;
+      short = H.short;
+    }
+
+pub check-requires : goal.check-requires
+unfolding verdict_of HeadsWhere
+check-requires c =
+    let read = c.read_package.ensures in
+    let auto = c.read_package.auto in
+    let is_read = answered _ c.read_package.new.kinds c.read_package.new.items _ _ _ _ _ _ _ _ _ c.in_ok-read.was read.result_after read.result_bound read.result_bound_2 read.result_in_bounds read.firsts_held (omega (arith, auto.coefs)) (omega (arith, auto.starts)) (omega (arith, auto.lens)) (omega (arith, auto.firsts)) in
+    let e = c.tabulate.ensures in
+    let holds : TableHolds c.args.«package».now c.read_package.new.coefs c.read_package.new.starts c.read_package.new.lens c.read_package.new.firsts c.in_ok-read.read.head c.tabulate.new.t =
     record {
       tabled = e.tabled;
       prime = e.t_after.0;
@@ -70,35 +77,21 @@ check-s-requires c =
       count = e.t_after_2.1;
       relations = e.t_after_3;
       basis = e.t_after_4;
-      sound = basis_sound _ _ c.judge_basis-b.ensures.result_value c.in_default.is;
+      sound = sym c.in_ok-judge_basis.ensures.result_value;
     } in
-    let heads = heads_sound _ _ _ _ _ _ _ _ _ _ c.judge_basis-b.ensures.heads_where c.in_default.is in
-    let r = is_read in
     record {
-      tabled = ((holds).tabled, heads_in r (holds) _ _ heads);
-      sums_start = begins_in r (holds);
-      room = c.requires.1;
+      tabled = (holds.tabled, heads_in is_read holds _ refl c.in_ok-judge_basis.ensures.heads_where.leading);
+      sums_start = begins_in is_read holds;
     }
 
-pub returns-in-Refused : goal.returns-in-Refused
-unfolding Accepts seen_all
-returns-in-Refused c =
-    let e = rw c.in-Refused.is at c.read_package-r.ensures.result_after in
-    record {
-      accepts = unread_refused c.args.«package».now _ _ e;
-      room = c.requires.1;
-    }
-
-pub returns-in-Rejected : goal.returns-in-Rejected
-unfolding Accepts
-returns-in-Rejected c =
-    let is_read : PackageRead c.args.«package».now c.read_package-r.new.coefs c.read_package-r.new.starts c.read_package-r.new.lens c.read_package-r.new.firsts c.in-Whole.head c.in-Whole.terms c.in-Whole.at c.in-Whole.line = let t = c.read_package-r.ensures in
-    let lc : length c.read_package-r.new.coefs ≡ 1024 = omega (arith, c.read_package-r.auto.coefs) in
-    let lo : length c.read_package-r.new.starts ≡ 1024 = omega (arith, c.read_package-r.auto.starts) in
-    let ll : length c.read_package-r.new.lens ≡ 1024 = omega (arith, c.read_package-r.auto.lens) in
-    let lf : length c.read_package-r.new.firsts ≡ 98 = omega (arith, c.read_package-r.auto.firsts) in
-    answered _ c.read_package-r.new.kinds c.read_package-r.new.items _ _ _ _ _ _ _ _ _ c.in-Whole.is t.result_after t.result_bound t.result_bound_2 t.result_in_bounds t.firsts_held lc lo ll lf in
-    let holds : TableHolds c.args.«package».now c.read_package-r.new.coefs c.read_package-r.new.starts c.read_package-r.new.lens c.read_package-r.new.firsts c.in-Whole.head c.tabulate.new.t = let e = c.tabulate.ensures in
+pub returns : goal.returns
+unfolding verdict_of
+returns c =
+    let read = c.read_package.ensures in
+    let auto = c.read_package.auto in
+    let is_read = answered _ c.read_package.new.kinds c.read_package.new.items _ _ _ _ _ _ _ _ _ c.in_ok-read.was read.result_after read.result_bound read.result_bound_2 read.result_in_bounds read.firsts_held (omega (arith, auto.coefs)) (omega (arith, auto.starts)) (omega (arith, auto.lens)) (omega (arith, auto.firsts)) in
+    let e = c.tabulate.ensures in
+    let holds : TableHolds c.args.«package».now c.read_package.new.coefs c.read_package.new.starts c.read_package.new.lens c.read_package.new.firsts c.in_ok-read.read.head c.tabulate.new.t =
     record {
       tabled = e.tabled;
       prime = e.t_after.0;
@@ -107,34 +100,6 @@ returns-in-Rejected c =
       count = e.t_after_2.1;
       relations = e.t_after_3;
       basis = e.t_after_4;
-      sound = basis_sound _ _ c.judge_basis-b.ensures.result_value c.in_default.is;
+      sound = sym c.in_ok-judge_basis.ensures.result_value;
     } in
-    record {
-      accepts = rejected_refused (is_read) (holds) _ _ _ (rw c.in-Rejected.is at c.check-s.ensures.value);
-      room = c.check-s.ensures.room_2;
-    }
-
-pub returns-in-Accepted : goal.returns-in-Accepted
-unfolding Accepts
-returns-in-Accepted c =
-    let is_read : PackageRead c.args.«package».now c.read_package-r.new.coefs c.read_package-r.new.starts c.read_package-r.new.lens c.read_package-r.new.firsts c.in-Whole.head c.in-Whole.terms c.in-Whole.at c.in-Whole.line = let t = c.read_package-r.ensures in
-    let lc : length c.read_package-r.new.coefs ≡ 1024 = omega (arith, c.read_package-r.auto.coefs) in
-    let lo : length c.read_package-r.new.starts ≡ 1024 = omega (arith, c.read_package-r.auto.starts) in
-    let ll : length c.read_package-r.new.lens ≡ 1024 = omega (arith, c.read_package-r.auto.lens) in
-    let lf : length c.read_package-r.new.firsts ≡ 98 = omega (arith, c.read_package-r.auto.firsts) in
-    answered _ c.read_package-r.new.kinds c.read_package-r.new.items _ _ _ _ _ _ _ _ _ c.in-Whole.is t.result_after t.result_bound t.result_bound_2 t.result_in_bounds t.firsts_held lc lo ll lf in
-    let holds : TableHolds c.args.«package».now c.read_package-r.new.coefs c.read_package-r.new.starts c.read_package-r.new.lens c.read_package-r.new.firsts c.in-Whole.head c.tabulate.new.t = let e = c.tabulate.ensures in
-    record {
-      tabled = e.tabled;
-      prime = e.t_after.0;
-      letters = e.t_after.1;
-      gens = e.t_after_2.0;
-      count = e.t_after_2.1;
-      relations = e.t_after_3;
-      basis = e.t_after_4;
-      sound = basis_sound _ _ c.judge_basis-b.ensures.result_value c.in_default.is;
-    } in
-    record {
-      accepts = accepted-taken (is_read) (holds) _ _ (rw c.in-Accepted.is at c.check-s.ensures.value);
-      room = c.check-s.ensures.room_2;
-    }
+    checked_accepts is_read holds _ c.check.ensures.value

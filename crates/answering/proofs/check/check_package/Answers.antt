@@ -3,13 +3,12 @@ use Rattle.accepting.specs.Accepted.{Accepts}
 use Rattle.answering.proofs.ServiceAnswers.{refused-checked, accepted-checked}
 use Rattle.answering.proofs.check.check_package.Goals as goal
 
-pub returns-in-Turned : goal.returns-in-Turned
+pub returns-in-Err : goal.returns-in-Err
 unfolding Accepts
-returns-in-Turned c =
-    refused-checked c.args.«package».now _ _ (rw c.in-Turned.is at c.accept-r.ensures.accepts)
+returns-in-Err c = rw c.from.ensures (refused-checked c.args.«package».now _ _ c.in-Err.ensures)
 
-pub returns-in-Taken : goal.returns-in-Taken
+pub returns-in-Ok : goal.returns-in-Ok
 unfolding Accepts
-returns-in-Taken c =
-    let e = rw c.in-Taken.is at c.accept-r.ensures.accepts in
-    accepted-checked _ _ _ e.0 e.1
+returns-in-Ok c =
+    let (accepted, count) = c.in-Ok.ensures in
+    accepted-checked _ _ _ accepted count

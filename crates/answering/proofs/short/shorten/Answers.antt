@@ -5,27 +5,23 @@ use Rattle.answering.proofs.ServiceAnswers.{refused_shortened, refused-kept, sho
 use Rattle.answering.proofs.short.shorten.Goals as goal
 
 pub write_short-requires : goal.write_short-requires
-unfolding seen_reduced ShortHeld
-write_short-requires c =
-    let h = rw c.in-Short.is at c.reduce-r.ensures.short_held in
-    h.1.holds
+unfolding ShortHeld
+write_short-requires c = c.in-Ok.ensures.short_held.1.holds
 
-pub returns-in-Refused : goal.returns-in-Refused
-unfolding seen_reduced ShortHeld
-returns-in-Refused c =
+pub returns-in-Err : goal.returns-in-Err
+unfolding seen_reduced
+returns-in-Err c =
     let s = c.args in
-    let e = rw c.in-Refused.is at c.reduce-r.ensures.result_after in record {
-      value = c.refusal.ensures ∙ refused_shortened s.«package».now s.formula.now s.budget _ _ e _;
+    let e = c.in-Err.ensures.result_after in record {
+      value = rw c.from.ensures at c.refusal.ensures ∙ refused_shortened s.«package».now s.formula.now s.budget _ _ e _;
       out_after = refused-kept s.«package».now s.formula.now s.budget _ _ e _;
     }
 
-pub returns-in-Short : goal.returns-in-Short
-unfolding seen_reduced ShortHeld
-returns-in-Short c =
+pub returns-in-Ok : goal.returns-in-Ok
+unfolding seen_reduced
+returns-in-Ok c =
     let s = c.args in
-    let e = rw c.in-Short.is at c.reduce-r.ensures.result_after in
-    let answer = c.write_short.ensures.value in
-    let output = c.write_short.ensures.out_after in record {
-      value = answer ∙ short_shortened s.«package».now s.formula.now s.budget _ _ e _;
-      out_after = output ∙ short-written s.«package».now s.formula.now s.budget _ _ e _;
+    let e = c.in-Ok.ensures.result_after in record {
+      value = c.write_short.ensures.value ∙ short_shortened s.«package».now s.formula.now s.budget _ _ e _;
+      out_after = c.write_short.ensures.out_after ∙ short-written s.«package».now s.formula.now s.budget _ _ e _;
     }

@@ -9,28 +9,27 @@ use Rattle.cases.proofs.SaidNumbers.{said-next, said-end, pow-nine}
 use borrow.Author.Rules.{rules}
 use Rattle.cases.proofs.head.number_said.Goals as goal
 
-pub loop-i-init : goal.loop-i-init
+pub loop-d-init : goal.loop-d-init
 unfolding pow
-loop-i-init c = search rules
+loop-d-init c = search rules
 
 pub overflow_mul-n : goal.overflow_mul-n
 overflow_mul-n c =
-    omega (arith, pow-nine c.loop-i.i (search rules), c.loop-i.invariant.1)
+    omega (arith, pow-nine c.loop-d.d-index (search rules), c.loop-d.invariant.1)
 
 pub overflow_add-n : goal.overflow_add-n
 overflow_add-n c =
-    omega (arith, pow-nine c.loop-i.i (search rules), c.loop-i.invariant.1, c.digit_value.ensures.1)
+    omega (arith, pow-nine c.loop-d.d-index (search rules), c.loop-d.invariant.1, c.digit_value.ensures.1)
 
-pub loop-i-preserved : goal.loop-i-preserved
-loop-i-preserved c =
+pub loop-d-preserved : goal.loop-d-preserved
+loop-d-preserved c =
     let f = c.args.f.now in
-    let i = c.loop-i.i in
-    let n = c.loop-i.n in (
-      ap (λ x. said (n * 10 + x) (drop (i + 1) f)) c.digit_value.ensures.0 ∙ said-next f i n (search rules) ∙ c.loop-i.invariant.0,
-      pow_more i n c.digit_value.result c.loop-i.invariant.1 c.digit_value.ensures.1,
-      search rules,
+    let i = c.loop-d.d-index in
+    let n = c.loop-d.n in (
+      ap (λ x. said (n * 10 + x) (drop (i + 1) f)) c.digit_value.ensures.0 ∙ said-next f i n (search rules) ∙ c.loop-d.invariant.0,
+      pow_more i n c.digit_value.result c.loop-d.invariant.1 c.digit_value.ensures.1,
     )
 
 pub returns : goal.returns
 returns c =
-    sym (said-end c.args.f.now c.loop-i.i c.loop-i.n (search rules)) ∙ c.loop-i.invariant.0
+    sym (said-end c.args.f.now c.loop-d.d-index c.loop-d.n (search rules)) ∙ c.loop-d.invariant.0

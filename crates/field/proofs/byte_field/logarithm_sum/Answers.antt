@@ -9,10 +9,10 @@ pub overflow_add-result : goal.overflow_add-result
 overflow_add-result c =
     let x = logarithm-lt c.args.a c.requires.0 c.requires.1 in
     let y = logarithm-lt c.args.b c.requires.2 c.requires.3 in
-    record { fits = omega (arith, x, y, c.wide.ensures, c.wide-2.ensures) }
+    record { fits = omega (arith, x, y, c.from.ensures, c.from-2.ensures) }
 
 pub returns : goal.returns
 returns c =
     let x = logarithm-lt c.args.a c.requires.0 c.requires.1 in
     let y = logarithm-lt c.args.b c.requires.2 c.requires.3 in
-    (ap₂ ◌+◌ c.wide.ensures c.wide-2.ensures, omega (arith, x, y, c.wide.ensures, c.wide-2.ensures))
+    (ap₂ ◌+◌ c.from.ensures c.from-2.ensures, omega (arith, x, y, c.from.ensures, c.from-2.ensures))

@@ -2,12 +2,13 @@
 use native.Mathlib.Omega.{arith}
 use Rattle.field.proofs.ByteField.{product-zero-left, product-zero-right, product-low, product_high}
 use Rattle.field.proofs.byte_field.product.Goals as goal
+use Rattle.field.proofs.byte_field.product.Goals.{then-a-eq0-via-then-a-eq0, then-a-eq0-via-else-a-eq0+then-b-eq0}
 
 pub returns-then-a-eq0 : goal.returns-then-a-eq0
-returns-then-a-eq0 c = (product-zero-left _ _ (omega arith) (omega arith) c.if-a-eq0.true, omega arith)
-
-pub returns-then-b-eq0 : goal.returns-then-b-eq0
-returns-then-b-eq0 c = (product-zero-right _ _ (omega arith) (omega arith) c.if-b-eq0.true, omega arith)
+returns-then-a-eq0 c = elim c.then-a-eq0.branch [
+  | then-a-eq0-via-then-a-eq0 z ↦ (product-zero-left _ _ (omega arith) (omega arith) z.if-a-eq0.true, omega arith)
+  | then-a-eq0-via-else-a-eq0+then-b-eq0 z ↦ (product-zero-right _ _ (omega arith) (omega arith) z.if-b-eq0.true, omega arith)
+]
 
 pub returns-then-i-lt255 : goal.returns-then-i-lt255
 returns-then-i-lt255 c =

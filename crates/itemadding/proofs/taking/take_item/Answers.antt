@@ -7,40 +7,28 @@ use native.Mathlib.Omega.{arith}
 use Rattle.algebra.specs.Poly.{Poly}
 use Rattle.algebra.specs.Written.{plus}
 use Rattle.table.specs.Table.{field_in, order_in, terms_in, first_in}
-use Rattle.table.specs.Words.{word_of}
-use Rattle.packedterms.specs.Formula.{formula}
+use Rattle.packedterms.specs.InFormula.{formula_in, letters_in}
 use Rattle.itemadding.proofs.Lowering.{lower_next}
 use Rattle.itemadding.proofs.Sums.{rest, rest-next, rest_end, rest_skip, adding_next, adding_end}
 use Rattle.itemadding.proofs.taking.take_item.Goals as goal
 
-most : (f : goal.After-first_in) → let a = f.args in first_in a.t.now (suc a.item) ≤ terms_in a.t.now
-most f =
-    f.requires.tabled.0.most f.args.item f.requires.tabled.2 f.requires.tabled.3
-
-rises : (f : goal.After-first_in) → let a = f.args in first_in a.t.now a.item ≤ first_in a.t.now (suc a.item)
-rises f =
-    f.requires.tabled.0.rising f.args.item f.requires.tabled.2 f.requires.tabled.3
-
--- a turn's term is one of the item
-more : (i : goal.In-loop-i) → let a = i.args in i.loop-i.i < first_in a.t.now (suc a.item)
-more i =
-    omega (arith, i.loop-i-test.true, (let end_is : i.first_in-end.result ≡ first_in i.args.t.now (suc i.args.item) = i.first_in-end.ensures ∙ ap (first_in i.args.t.now) (add-one i.args.item) in end_is))
-
-pub overflow_add-i : goal.overflow_add-i
-overflow_add-i c =
+pub overflow_add-first : goal.overflow_add-first
+overflow_add-first c =
     let q = c.requires.tabled.0.terms in
     let s = c.requires.tabled.4 in
-    record { fits = omega (arith, c.first_in.ensures, most c, rises c) }
+    let most = c.requires.tabled.0.most c.args.item c.requires.tabled.2 c.requires.tabled.3 in
+    let rises = c.requires.tabled.0.rising c.args.item c.requires.tabled.2 c.requires.tabled.3 in
+    record { fits = omega (arith, c.first_in.ensures, most, rises) }
 
 pub loop-i-init : goal.loop-i-init
 loop-i-init c =
     let a = c.args in
     let t = a.t.now in
     let e = c.first_in.ensures in
-    let (_, _, _, _, few, _, nine) = c.requires.tabled in
-    let all : ℕ → Poly = λ (j : ℕ). plus (field_in t) (order_in t) (formula t a.c.now a.l.now a.w.now a.o.now a.n)
-    (rest t ((field_in t).neg a.x) (word_of t a.a a.left.now) (word_of t a.b a.right.now) (first_in t (suc a.item)) (j + a.skip)) in (
-      record { from = omega arith; low = omega arith; less = omega arith; nine = nine },
+    let few = c.requires.tabled.4 in
+    let all : ℕ → Poly = λ (j : ℕ). plus (field_in t) (order_in t) (formula_in t a.f.now)
+    (rest t ((field_in t).neg a.x) (letters_in t a.left.now) (letters_in t a.right.now) (first_in t (suc a.item)) (j + a.skip)) in (
+      record { from = omega arith; low = omega arith; less = omega arith },
       rw e c.requires.working.1,
       record { working = c.requires.working.0; sum = ap all e },
     )
@@ -48,10 +36,11 @@ loop-i-init c =
 pub opposite_coef-z-requires : goal.opposite_coef-z-requires
 opposite_coef-z-requires c =
     let most : let a = c.args in first_in a.t.now (suc a.item) ≤ terms_in a.t.now = c.requires.tabled.0.most c.args.item c.requires.tabled.2 c.requires.tabled.3 in
-    (c.requires.tabled.0, c.requires.tabled.1, omega (arith, more c, most))
+    let end_is : c.first_in-end.result ≡ first_in c.args.t.now (suc c.args.item) = c.first_in-end.ensures ∙ ap (first_in c.args.t.now) (add-one c.args.item) in
+    (c.requires.tabled.0, c.requires.tabled.1, omega (arith, c.loop-i-test.true, end_is, most))
 
-pub build-e-requires : goal.build-e-requires
-build-e-requires c =
+pub build-requires : goal.build-requires
+build-requires c =
     let end_is : c.first_in-end.result ≡ first_in c.args.t.now (suc c.args.item) = c.first_in-end.ensures ∙ ap (first_in c.args.t.now) (add-one c.args.item) in
     let more : let a = c.args in c.loop-i.i < first_in a.t.now (suc a.item) = omega (arith, c.loop-i-test.true, end_is) in
     let most : let a = c.args in first_in a.t.now (suc a.item) ≤ terms_in a.t.now = c.requires.tabled.0.most c.args.item c.requires.tabled.2 c.requires.tabled.3 in
@@ -59,30 +48,22 @@ build-e-requires c =
     let g = m.invariant.0 in
     let (l, r, fits) = c.requires.sixfold in
     record {
-      tabled = (c.requires.tabled.0, omega (arith, more, most), g.nine);
+      tabled = (c.requires.tabled.0, omega (arith, more, most));
       sixfold = (l, r, fits.short m.i g.from (more));
     }
 
-pub add_term-r-requires : goal.add_term-r-requires
-add_term-r-requires c =
+pub add_term-low-requires : goal.add_term-low-requires
+add_term-low-requires c =
     let end_is : c.first_in-end.result ≡ first_in c.args.t.now (suc c.args.item) = c.first_in-end.ensures ∙ ap (first_in c.args.t.now) (add-one c.args.item) in
     let more : let a = c.args in c.loop-i.i < first_in a.t.now (suc a.item) = omega (arith, c.loop-i-test.true, end_is) in
     let few : let a = c.args in first_in a.t.now (suc a.item) ≤ first_in a.t.now a.item + 48 = c.requires.tabled.0.few c.args.item c.requires.tabled.2 c.requires.tabled.3 in
     let m = c.loop-i in
     let g = m.invariant.0 in
     let room = c.requires.tabled.5 in record {
-      tabled = (c.requires.tabled.0, c.opposite_coef-z.ensures.1, omega (arith, more, few, g.less), c.build-e.ensures.built);
+      tabled = (c.requires.tabled.0, c.opposite_coef-z.ensures.1, omega (arith, more, few, g.less), c.build.ensures.built);
       working = m.invariant.2.working;
-      behind = rw c.build-e.ensures.dst_after (m.invariant.1.behind m.i (omega arith) (more));
+      behind = rw c.build.ensures.word (m.invariant.1.behind m.i (omega arith) (more));
     }
-
-pub overflow_add-i-in-loop-i : goal.overflow_add-i-in-loop-i
-overflow_add-i-in-loop-i c =
-    let end_is : c.first_in-end.result ≡ first_in c.args.t.now (suc c.args.item) = c.first_in-end.ensures ∙ ap (first_in c.args.t.now) (add-one c.args.item) in
-    let more : let a = c.args in c.loop-i.i < first_in a.t.now (suc a.item) = omega (arith, c.loop-i-test.true, end_is) in
-    let most : let a = c.args in first_in a.t.now (suc a.item) ≤ terms_in a.t.now = c.requires.tabled.0.most c.args.item c.requires.tabled.2 c.requires.tabled.3 in
-    let q = c.requires.tabled.0.terms in
-    record { fits = omega (arith, more, most) }
 
 pub loop-i-preserved : goal.loop-i-preserved
 loop-i-preserved c =
@@ -93,12 +74,12 @@ loop-i-preserved c =
     let g = m.invariant.0 in
     let a = c.args in
     let t = a.t.now in
-    let e = c.add_term-r.ensures in
-    let next = rest-next t ((field_in t).neg a.x) (word_of t a.a a.left.now) (word_of t a.b a.right.now) (first_in t (suc a.item))
-    m.i c.opposite_coef-z.result _ (more) c.opposite_coef-z.ensures.0 c.build-e.ensures.dst_after in (
-      record { from = omega (arith, g.from); low = omega (arith, more, few); less = omega (arith, g.less, e.terms_bound.0); nine = c.build-e.ensures.built.nine },
-      lower_next t c.requires.tabled.0 a.item c.requires.tabled.2 c.requires.tabled.3 _ _ m.i g.from _ _ c.build-e.ensures.dst_after e.behind_2,
-      adding_next _ c.requires.tabled.0 _ _ _ _ _ _ _ m.invariant.2 _ _ _ _ _ _ _ next e.terms_bound.1 e.terms_after,
+    let e = c.add_term-low.ensures in
+    let next = rest-next t ((field_in t).neg a.x) (letters_in t a.left.now) (letters_in t a.right.now) (first_in t (suc a.item))
+    m.i c.opposite_coef-z.result _ (more) c.opposite_coef-z.ensures.0 c.build.ensures.word in (
+      record { from = omega (arith, g.from); low = omega (arith, more, few); less = omega (arith, g.less, e.holds.0) },
+      lower_next t c.requires.tabled.0 a.item c.requires.tabled.2 c.requires.tabled.3 _ _ m.i g.from _ _ c.build.ensures.word e.behind_2,
+      adding_next _ c.requires.tabled.0 _ _ _ _ _ _ _ m.invariant.2 _ _ _ _ _ _ _ next e.holds.1 e.inserted,
     )
 
 pub returns : goal.returns
@@ -108,15 +89,15 @@ returns c =
     let t = a.t.now in
     let g = c.loop-i.invariant.0 in
     let adding = c.loop-i.invariant.2 in
-    let left = word_of t a.a a.left.now in
-    let right = word_of t a.b a.right.now in
+    let left = letters_in t a.left.now in
+    let right = letters_in t a.right.now in
     let first = first_in t a.item in
     let end = first_in t (suc a.item) in
-    let whole = plus (field_in t) (order_in t) (formula t a.c.now a.l.now a.w.now a.o.now a.n) in
+    let whole = plus (field_in t) (order_in t) (formula_in t a.f.now) in
     let all = rest_end t ((field_in t).neg a.x) left right end c.loop-i.i (omega (arith, c.loop-i-test.false, end_is)) in
     let skipped = rest_skip t ((field_in t).neg a.x) left right end first a.skip in
     record {
-      upper_bound = (omega (arith, g.less, g.low), g.nine);
+      upper_bound = omega (arith, g.less, g.low);
       working_2 = adding.working;
-      result_after = adding_end _ _ _ _ _ _ _ _ adding all ∙ ap whole (sym skipped);
+      taken = adding_end _ _ _ _ _ _ _ _ adding all ∙ ap whole (sym skipped);
     }

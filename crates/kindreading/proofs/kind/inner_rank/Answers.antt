@@ -26,29 +26,29 @@ returns-then-l-at-eq32 c = record {
   result_in_bounds = omega arith;
 }
 
-pub returns-then-not-is_space_at : goal.returns-then-not-is_space_at
+pub returns-then-not-ends_at : goal.returns-then-not-ends_at
 unfolding seen_num next_num
-returns-then-not-is_space_at c =
-    let e = eqb-false _ _ (sym c.is_space_at.ensures ∙ c.if-not-is_space_at.true) in
+returns-then-not-ends_at c =
+    let e = eqb-false _ _ (sym c.ends_at.ensures ∙ c.if-not-ends_at.true) in
     record {
       result_value = kind_long _ _ _ c.if-l-at.false c.if-l-at-eq32.false e;
       result_in_bounds = omega arith;
     }
 
-pub returns-in-Misshapen : goal.returns-in-Misshapen
+pub returns-in_err-value : goal.returns-in_err-value
 unfolding seen_num next_num
-returns-in-Misshapen c =
-    let e = eqb-true _ _ (sym c.is_space_at.ensures ∙ c.if-not-is_space_at.false) in
-    record {
-      result_value = kind_wrong _ _ _ c.if-l-at.false c.if-l-at-eq32.false _ e c.rank_of-n.ensures c.in-Misshapen.is;
+returns-in_err-value c =
+    let e = eqb-true _ _ (sym c.ends_at.ensures ∙ c.if-not-ends_at.false) in
+    rw c.from_residual.ensures (record {
+      result_value = kind_wrong _ _ _ c.if-l-at.false c.if-l-at-eq32.false _ e c.rank_of.ensures c.in_err-value.was;
       result_in_bounds = omega arith;
-    }
+    })
 
-pub returns-in-Value : goal.returns-in-Value
+pub returns : goal.returns
 unfolding seen_num next_num
-returns-in-Value c =
+returns c =
     let a = c.args in
-    let e = eqb-true _ _ (sym c.is_space_at.ensures ∙ c.if-not-is_space_at.false) in record {
-      result_value = kind-some _ _ _ c.if-l-at.false c.if-l-at-eq32.false _ _ e c.rank_of-n.ensures c.in-Value.is;
+    let e = eqb-true _ _ (sym c.ends_at.ensures ∙ c.if-not-ends_at.false) in record {
+      result_value = kind-some _ _ _ c.if-l-at.false c.if-l-at-eq32.false _ _ e c.rank_of.ensures c.in_ok-value.was;
       result_in_bounds = omega (arith, space_inside a.l.now (a.at + 1) e);
     }

@@ -1,17 +1,20 @@
--- `rank_of`: the kinds that are left, the first of them with rank n, give the rank that all give.
+-- `rank_of`: one more than the place of the byte among the kinds.
 use mathlib.Core.Path.{sym, ◌∙◌}
 use borrow.Author.Rules.{rules}
-use Rattle.text.proofs.Bytewise.{rank_here, rank-later, rank-none}
+use lib.Dec.{eqb}
+use Rattle.std.proofs.lemmas.Iterator.Search.{position_from_yields_List}
+use Rattle.std.proofs.lemmas.Iterator.{YieldsList-from_slice}
+use Rattle.text.proofs.Bytewise.{rank-none, rank-found}
 use Rattle.kindreading.proofs.kind.rank_of.Goals as goal
 
-pub returns-then-kinds-i : goal.returns-then-kinds-i
-returns-then-kinds-i c =
-    sym (sym c.loop-i.invariant.2 ∙ rank_here _ _ c.loop-i.i _ (search rules) c.if-kinds-i.true)
-
-pub loop-i-preserved : goal.loop-i-preserved
-loop-i-preserved c =
-    (search rules, search rules, rank-later _ _ c.loop-i.i _ (search rules) c.if-kinds-i.false ∙ c.loop-i.invariant.2)
+pub returns-in_err-before : goal.returns-in_err-before
+returns-in_err-before c =
+    c.from_residual.ensures ∙ sym (rank-none c.args.kinds.now c.args.b c.position.result
+    (position_from_yields_List (λ k. eqb k c.args.b) _ _ c.position.result c.position.ensures.ran (YieldsList-from_slice c.args.kinds.now cc) (λ x b q k. search rules))
+    c.in_err-before.was)
 
 pub returns : goal.returns
 returns c =
-    sym (sym c.loop-i.invariant.2 ∙ rank-none _ _ c.loop-i.i _ c.loop-i-test.false)
+    sym (rank-found c.args.kinds.now c.args.b c.position.result
+    (position_from_yields_List (λ k. eqb k c.args.b) _ _ c.position.result c.position.ensures.ran (YieldsList-from_slice c.args.kinds.now cc) (λ x b q k. search rules))
+    _ c.in_ok-before.was)

@@ -15,13 +15,13 @@ overflow_add-base c =
     search rules
 
 pub loop-g-init : goal.loop-g-init
-loop-g-init c = (omega arith, c.basis_in-n.ensures, search rules, codes_blank c.requires.code_blank)
+loop-g-init c = (c.basis_in-n.ensures, search rules, codes_blank c.requires.code_blank)
 
 pub size_in-m-requires : goal.size_in-m-requires
 size_in-m-requires c =
     let m = c.loop-g in
     let h = c.requires.tabled in
-    let i = term-inside c.args.t.now m.g _ _ 0 m.invariant.2 c.first_in-i.ensures h (omega arith) in
+    let i = term-inside c.args.t.now m.g _ _ 0 m.invariant.1 c.first_in-i.ensures h (omega arith) in
     let k = h.terms in
     omega arith
 
@@ -29,26 +29,26 @@ pub mark_pairs-requires : goal.mark_pairs-requires
 mark_pairs-requires c =
     let m = c.loop-g in
     let h = c.requires.tabled in
-    let i = term-inside c.args.t.now m.g _ _ 0 m.invariant.2 c.first_in-i.ensures h (omega arith) in
+    let i = term-inside c.args.t.now m.g _ _ 0 m.invariant.1 c.first_in-i.ensures h (omega arith) in
     let k = h.terms in
     let s = h.short _ i in
     let e = c.size_in-m.ensures in
     record {
       i_bound = (omega arith, rw e s);
-      index_len = m.invariant.3.room;
+      index_len = m.invariant.2.room;
     }
 
 pub mark_rows-requires : goal.mark_rows-requires
 mark_rows-requires c =
     let m = c.loop-g in
     let h = c.requires.tabled in
-    let i = term-inside c.args.t.now m.g _ _ 0 m.invariant.2 c.first_in-i.ensures h (omega arith) in
+    let i = term-inside c.args.t.now m.g _ _ 0 m.invariant.1 c.first_in-i.ensures h (omega arith) in
     let k = h.terms in
     let b = h.basis in
     let s = h.short _ i in
     record {
       i_bound = (omega arith, rw c.size_in-m.ensures s, omega arith);
-      index_len = c.mark_pairs.ensures.room ∙ m.invariant.3.room;
+      index_len = c.mark_pairs.ensures.room ∙ m.invariant.2.room;
     }
 
 pub loop-g-preserved : goal.loop-g-preserved
@@ -56,14 +56,14 @@ loop-g-preserved c =
     let m = c.loop-g in
     let t = c.args.t.now in
     let g = m.g in
-    let w = lead-read t g _ _ _ m.invariant.2 c.first_in-i.ensures c.size_in-m.ensures (omega arith) in
+    let w = lead-read t g _ _ _ m.invariant.1 c.first_in-i.ensures c.size_in-m.ensures (omega arith) in
     let e : g * 25 + 25 ≡ (g + 1) * 25 = omega arith in
-    let p = pairs_more g (g * 25) w c.mark_pairs.ensures m.invariant.3 in
-    (omega arith, m.invariant.1, m.invariant.2, rw e at (c.mark_rows.ensures.code_rows_done (lead_codes_in t) (g + 1) w p))
+    let p = pairs_more g (g * 25) w c.mark_pairs.ensures m.invariant.2 in
+    (m.invariant.0, m.invariant.1, rw e at (c.mark_rows.ensures.code_rows_done (lead_codes_in t) (g + 1) w p))
 
 pub returns : goal.returns
 returns c =
     let m = c.loop-g in
     let t = c.args.t.now in
     let e = lead-codes-length t (gens_in t + 1) (basis_count_in t) in
-    codes-done m.g (omega (arith, m.invariant.0, m.invariant.1, c.loop-g-test.false, e)) (leads_indexable t c.requires.tabled) m.invariant.3
+    codes-done m.g (omega (arith, m.invariant.0, m.invariant.1, c.loop-g-test.false, e)) (leads_indexable t c.requires.tabled) m.invariant.2

@@ -1,5 +1,5 @@
 use mathlib.Core.Path.{◌≡◌}
-use Prim.Native.Nat.{◌+◌, ◌-◌, ◌*◌, ◌≤◌}
+use Prim.Native.Nat.{◌+◌, ◌*◌}
 use Rattle.table.specs.Table.{gens_in, basis_count_in}
 use Rattle.leads.specs.CodeIndex.{CodesHold}
 use Rattle.leads.specs.LeadCodes.{lead_codes_in}
@@ -7,7 +7,4 @@ use Rattle.leads.proofs.indexing.index_leads.Given as goal
 
 abbrev pub invariant-loop-g : goal.invariant-loop-g
 invariant-loop-g l =
-    (l.g ≤ l.n) × (l.n ≡ basis_count_in l.t) × (l.base ≡ gens_in l.t + 1) × CodesHold (lead_codes_in l.t) l.g (l.g * 25) l.index
-
-abbrev pub decreases-loop-g : goal.decreases-loop-g
-decreases-loop-g l = l.n - l.g
+    (l.n ≡ basis_count_in l.t) × (l.base ≡ gens_in l.t + 1) × CodesHold (lead_codes_in l.t) l.g (l.g * 25) l.index

@@ -8,27 +8,26 @@ use borrow.Author.Rules.{rules}
 use Rattle.leads.proofs.spotting.begun_by.Goals as goal
 
 pub loop-k-init : goal.loop-k-init
-loop-k-init c = (search rules, search rules, (λ u f. ahead_start f), λ ls u i f. codes-start i)
+loop-k-init c = (search rules, (λ u f. ahead_start f), λ ls u i f. codes-start i)
 
 pub returns-then-left-eq0 : goal.returns-then-left-eq0
 returns-then-left-eq0 c =
     let m = c.loop-k in
     let t = c.loop-k-test.true in
-    λ ls u i f. codes-none i (omega arith) (m.invariant.3 ls u i f) (ahead_letter f m.k m.v (m.invariant.2 u f) t) (omega arith) c.if-left-eq0.true
+    λ ls u i f. codes-none i (omega arith) (m.invariant.2 ls u i f) (ahead_letter f m.k m.v (m.invariant.1 u f) t) (omega arith) c.if-left-eq0.true
 
 pub loop-k-preserved : goal.loop-k-preserved
 loop-k-preserved c =
     let m = c.loop-k in
     let t = c.loop-k-test.true in
     let r = c.next_letters-v.ensures in (
-      omega arith,
       r.2,
-      (λ u f. ahead_next f m.k m.v (m.invariant.2 u f) _ r.0 r.1),
-      λ ls u i f. codes-next i (omega arith) (m.invariant.3 ls u i f) (ahead_letter f m.k m.v (m.invariant.2 u f) t) (omega arith),
+      (λ u f. ahead_next f m.k m.v (m.invariant.1 u f) _ r.0 r.1),
+      λ ls u i f. codes-next i (omega arith) (m.invariant.2 ls u i f) (ahead_letter f m.k m.v (m.invariant.1 u f) t) (omega arith),
     )
 
 pub returns : goal.returns
 returns c =
     let m = c.loop-k in
-    let e : m.k ≡ 24 = omega (arith, m.invariant.0, c.loop-k-test.false) in
-    λ ls u i f. codes-end i (omega arith) (rw e at (m.invariant.3 ls u i f)) refl
+    let e : m.k ≡ 24 = omega arith in
+    λ ls u i f. codes-end i (omega arith) (rw e at (m.invariant.2 ls u i f)) refl

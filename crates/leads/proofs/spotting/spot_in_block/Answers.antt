@@ -29,8 +29,6 @@ loop-i-init c =
     let b = c.block_at.ensures in
     let x = c.high-x.ensures in
     let y = c.high-y.ensures in (
-      omega arith,
-      c.requires.j_bound.1,
       moved_up _ _ (c.requires.word_len.1.blocks c.args.j) x,
       moved_up _ _ b.1 y,
       (λ n h. rw (moved_back _ _ x, moved_back _ _ y) (block-starts n c.args.word.now h c.args.j b.0)),
@@ -40,7 +38,7 @@ loop-i-init c =
 pub begun_at-begun-requires : goal.begun_at-begun-requires
 begun_at-begun-requires c =
     let m = c.loop-i in
-    (m.invariant.2.low, omega arith, c.requires.word_len.1)
+    (m.invariant.0.low, omega arith, c.requires.word_len.1)
 
 pub returns-then-begun-ne0 : goal.returns-then-begun-ne0
 unfolding seen spot_or
@@ -49,17 +47,17 @@ returns-then-begun-ne0 c =
     let word = c.args.word.now in
     λ ls n i h l.
     let w = unpacked n word in
-    let b = c.begun_at-begun.ensures ls (drop m.i w) i (block_fronted n word h m.i (m.x / 16) (m.invariant.4 n h).here) in
-    sym (spot_here ls w m.i _ b _ c.lowest-number.ensures.1) ∙ m.invariant.5 ls n i h l
+    let b = c.begun_at-begun.ensures ls (drop m.i w) i (block_fronted n word h m.i (m.x / 16) (m.invariant.2 n h).here) in
+    sym (spot_here ls w m.i _ b _ c.lowest-number.ensures.1) ∙ m.invariant.3 ls n i h l
 
 pub next_high-x-requires : goal.next_high-x-requires
 next_high-x-requires c =
     let m = c.loop-i in
-    (m.invariant.2.whole, m.invariant.3.low)
+    (m.invariant.0.whole, m.invariant.1.low)
 
 pub without_first-y-requires : goal.without_first-y-requires
 without_first-y-requires c =
-    c.loop-i.invariant.3.whole
+    c.loop-i.invariant.1.whole
 
 pub loop-i-preserved : goal.loop-i-preserved
 loop-i-preserved c =
@@ -68,20 +66,18 @@ loop-i-preserved c =
     let t = c.loop-i-test.true in
     let x = c.next_high-x.ensures in
     let y = c.without_first-y.ensures in (
-      omega arith,
-      omega arith,
-      moved_up _ _ (next-lt (m.x / 16) (m.y / 16) m.invariant.3.low) x,
+      moved_up _ _ (next-lt (m.x / 16) (m.y / 16) m.invariant.1.low) x,
       moved_up _ _ (omega arith) y,
-      (λ n h. block_moves n word h c.args.j m.i (m.invariant.4 n h) m.invariant.0 (omega arith) (moved_back _ _ x) (moved_back _ _ y)),
+      (λ n h. block_moves n word h c.args.j m.i (m.invariant.2 n h) (omega arith) (omega arith) (moved_back _ _ x) (moved_back _ _ y)),
       λ ls n i h l.
           let w = unpacked n word in
-          let b = c.begun_at-begun.ensures ls (drop m.i w) i (block_fronted n word h m.i (m.x / 16) (m.invariant.4 n h).here) in
-          spot-later ls w m.i _ b c.if-begun-ne0.false (omega (arith, unpacked-length n word)) ∙ m.invariant.5 ls n i h l,
+          let b = c.begun_at-begun.ensures ls (drop m.i w) i (block_fronted n word h m.i (m.x / 16) (m.invariant.2 n h).here) in
+          spot-later ls w m.i _ b c.if-begun-ne0.false (omega (arith, unpacked-length n word)) ∙ m.invariant.3 ls n i h l,
     )
 
 pub returns : goal.returns
 unfolding seen spot_or
 returns c =
     let m = c.loop-i in
-    let e : m.i ≡ c.args.end = omega (arith, m.invariant.1, c.loop-i-test.false) in
-    λ ls n i h l. rw e at (m.invariant.5 ls n i h l)
+    let e : m.i ≡ c.args.end = omega (arith, c.requires.j_bound) in
+    λ ls n i h l. rw e at (m.invariant.3 ls n i h l)

@@ -1,6 +1,6 @@
 use mathlib.Core.Path.{◌≡◌}
 use mathlib.Core.List.{List}
-use Prim.Native.Nat.{ℕ, ◌-◌, ◌*◌, ◌/◌, ◌≤◌}
+use Prim.Native.Nat.{ℕ, ◌*◌, ◌/◌, ◌≤◌}
 use lib.ListN.{drop}
 use Rattle.words.specs.Word.{Word}
 use Rattle.packedwords.specs.Packed.{unpacked, Packs}
@@ -11,13 +11,8 @@ use Rattle.leads.proofs.spotting.spot_in_block.Given as goal
 
 abbrev pub invariant-loop-i : goal.invariant-loop-i
 invariant-loop-i l =
-    (12 * l.j ≤ l.i)
-    × (l.i ≤ l.end)
-    × Moved l.x
+    Moved l.x
     × Moved l.y
     × ((n : ℕ) → Packs n l.word → InBlock (unpacked n l.word) l.j l.i (l.x / 16) (l.y / 16))
     × ((ls : List Word) (n : ℕ) → CodeIndexed ls l.index → Packs n l.word → l.end ≤ n
     → spot_of_words_from ls (drop l.i (unpacked n l.word)) l.i ≡ spot_of_words_from ls (drop (12 * l.j) (unpacked n l.word)) (12 * l.j))
-
-abbrev pub decreases-loop-i : goal.decreases-loop-i
-decreases-loop-i l = l.end - l.i

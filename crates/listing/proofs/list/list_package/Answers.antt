@@ -12,7 +12,7 @@ pub list_basis-requires : goal.list_basis-requires
 unfolding seen_all count_all gens_all basis_all FirstsHeld
 list_basis-requires c =
     let t = c.read_package-r.ensures in
-    let g = c.in-Whole.is in
+    let g = c.in-Ok.is in
     let e = rw g at t.result_after in
     let inside = rw g at t.result_bound in
     let few = rw g at t.result_bound_2 in
@@ -25,28 +25,28 @@ list_basis-requires c =
       basis_lies = record {
         p = _;
         m = _;
-        terms = slices_terms _ _ _ _ _ _ fs _ _ c.in-Whole.at c.in-Whole.line e marked inside.1 (omega arith) (omega arith) (omega arith) (omega arith);
-        runs = basis-run _ _ _ _ _ _ fs _ _ c.in-Whole.at c.in-Whole.line e marked inside.1 (omega arith) (omega arith) (omega arith) (omega arith);
+        terms = slices_terms _ _ _ _ _ _ fs _ _ c.in-Ok.read.at c.in-Ok.read.line e marked inside.1 (omega arith) (omega arith) (omega arith) (omega arith);
+        runs = basis-run _ _ _ _ _ _ fs _ _ c.in-Ok.read.at c.in-Ok.read.line e marked inside.1 (omega arith) (omega arith) (omega arith) (omega arith);
       };
       count_bound = few.1;
     }
 
-pub returns-in-Refused : goal.returns-in-Refused
+pub returns-in-Err : goal.returns-in-Err
 unfolding seen_all count_all gens_all basis_all FirstsHeld
-returns-in-Refused c =
+returns-in-Err c =
     let t = c.read_package-r.ensures in
-    let g = c.in-Refused.is in
+    let g = c.in-Err.is in
     let e = rw g at t.result_after in
     record {
       value = c.refusal.ensures ∙ sym (unread_listed _ _ _ _ e);
       out_after = sym (unread_kept _ _ _ _ e);
     }
 
-pub returns-in-Whole : goal.returns-in-Whole
+pub returns-in-Ok : goal.returns-in-Ok
 unfolding seen_all count_all gens_all basis_all FirstsHeld
-returns-in-Whole c =
+returns-in-Ok c =
     let t = c.read_package-r.ensures in
-    let g = c.in-Whole.is in
+    let g = c.in-Ok.is in
     let e = rw g at t.result_after in
     let inside = rw g at t.result_bound in
     let few = rw g at t.result_bound_2 in
@@ -57,7 +57,7 @@ returns-in-Whole c =
     let ll : length c.read_package-r.new.lens ≡ 1024 = c.read_package-r.auto.lens in
     let lf : length fs ≡ 98 = c.read_package-r.auto.firsts in
     let b = c.list_basis.ensures in
-    let x = basis-held _ _ _ _ _ _ fs _ _ c.in-Whole.at c.in-Whole.line e marked inside.1 (omega arith) (omega arith) (omega arith) (omega arith) in
+    let x = basis-held _ _ _ _ _ _ fs _ _ c.in-Ok.read.at c.in-Ok.read.line e marked inside.1 (omega arith) (omega arith) (omega arith) (omega arith) in
     record {
       value = b.value ∙ ap (basis_listed _) x ∙ sym (read_listed _ _ _ e);
       out_after = b.out_after ∙ ap (basis_output _) x ∙ sym (read-written _ _ _ e);

@@ -1,21 +1,14 @@
 -- `write_list` writes the names line, and behind it the line of each pair.
 use native.Mathlib.Omega.{arith}
-use Rattle.words.specs.Laid.{laid_words}
+use Rattle.overlapsearch.specs.Leading.{words_in}
 use Rattle.listwriting.proofs.NamesLine.{text-length, text-stored}
 use Rattle.listwriting.proofs.listing.write_list.Goals as goal
 
 pub put_bytes-e-requires : goal.put_bytes-e-requires
-put_bytes-e-requires c =
-    omega (arith, text-length (laid_words c.args.starts.now c.args.lens.now c.args.bytes.now c.args.n))
+put_bytes-e-requires c = omega (arith, text-length (words_in c.args.words.now))
 
-pub write_lines-requires : goal.write_lines-requires
-write_lines-requires c =
-    record {
-      laid = c.requires.laid;
-      n_bound = c.requires.n_bound;
-      kept_pairs = c.requires.kept_pairs;
-      n_in_bounds = omega (arith, text-length (laid_words c.args.starts.now c.args.lens.now c.args.bytes.now c.args.n), c.put_bytes-e.ensures.value);
-    }
+pub write_lines-requires-clause-in_bounds : goal.write_lines-requires-clause-in_bounds
+write_lines-requires-clause-in_bounds c = omega (arith, text-length (words_in c.args.words.now), c.put_bytes-e.ensures.value)
 
 pub returns : goal.returns
 returns c =

@@ -1,6 +1,6 @@
 use mathlib.Core.Path.{◌≡◌}
 use Prim.Native.Nat.{◌+◌, ◌-◌, ◌≤◌, ◌<◌}
-use lib.ListN.{length, drop}
+use lib.ListN.{drop}
 use Rattle.text.proofs.Digits.{pow}
 use Rattle.text.specs.Number.{digits}
 use Rattle.text.specs.Pieces.{stop}
@@ -9,8 +9,5 @@ use Rattle.numberreading.proofs.number.inner_digits.Given as goal
 
 abbrev pub invariant-loop-i : goal.invariant-loop-i
 invariant-loop-i l =
-    (l.i ≤ length l.l) × (l.at ≤ l.i) × (l.i ≤ l.at + 5) × (l.n < pow (l.i - l.at)) × (l.i + stop 32 (drop l.i l.l) ≡ l.at + stop 32 (drop l.at l.l)) ×
+    (l.i ≤ l.at + 5) × (l.n < pow (l.i - l.at)) × (l.i + stop 32 (drop l.i l.l) ≡ l.at + stop 32 (drop l.at l.l)) ×
     (digits l.n (front 32 (drop l.i l.l)) ≡ digits 0 (front 32 (drop l.at l.l)))
-
-abbrev pub decreases-loop-i : goal.decreases-loop-i
-decreases-loop-i l = length l.l - l.i

@@ -18,11 +18,11 @@ returns-then-l-at c = record {
   result_in_bounds = omega arith;
 }
 
-pub returns-then-is_space_at : goal.returns-then-is_space_at
+pub returns-then-ends_at : goal.returns-then-ends_at
 unfolding seen_num next_num
-returns-then-is_space_at c =
+returns-then-ends_at c =
     let a = c.args in
-    let e = eqb-true _ _ (sym c.is_space_at.ensures ∙ c.if-is_space_at.true) in
+    let e = eqb-true _ _ (sym c.ends_at.ensures ∙ c.if-ends_at.true) in
     record {
       result_value = zero_alone _ _ c.if-l-at.false c.if-l-at-ne48.false e;
       result_in_bounds = omega (arith, space_inside a.l.now (a.at + 1) e);
@@ -31,7 +31,7 @@ returns-then-is_space_at c =
 pub returns : goal.returns
 unfolding seen_num next_num
 returns c =
-    let e = eqb-false _ _ (sym c.is_space_at.ensures ∙ c.if-is_space_at.false) in
+    let e = eqb-false _ _ (sym c.ends_at.ensures ∙ c.if-ends_at.false) in
     record {
       result_value = zero_more _ _ c.if-l-at.false c.if-l-at-ne48.false e;
       result_in_bounds = omega arith;

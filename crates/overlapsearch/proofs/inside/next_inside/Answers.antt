@@ -1,20 +1,17 @@
 -- `next_inside` is the next place. The loop's invariant: the places from n on say what those from s on say.
-use mathlib.Core.Path.{refl, sym, ◌∙◌}
+use mathlib.Core.Path.{sym, ◌∙◌}
 use native.Mathlib.Omega.{arith}
 use Rattle.overlapsearch.proofs.Passing.{passing_here, passing_later, passing_end}
 use Rattle.overlapsearch.proofs.inside.next_inside.Goals as goal
 
-pub loop-n-init : goal.loop-n-init
-loop-n-init c = (c.places_in-most.ensures, refl)
-
 pub returns-then-stood : goal.returns-then-stood
 returns-then-stood c =
-    sym (sym c.loop-n.invariant.1 ∙ passing_here _ _ c.loop-n.n (omega arith) (sym c.stands_at-stood.ensures.stands_value ∙ c.if-stood.true))
+    rw (← c.places_in-most.ensures) (sym (passing_here _ _ c.loop-n.n (omega arith) (sym c.stands_at-stood.ensures.stands_value ∙ c.if-stood.true)) ∙ c.loop-n.invariant)
 
 pub loop-n-preserved : goal.loop-n-preserved
 loop-n-preserved c =
-    (c.loop-n.invariant.0, passing_later _ _ c.loop-n.n (omega arith) (sym c.stands_at-stood.ensures.stands_value ∙ c.if-stood.false) ∙ c.loop-n.invariant.1)
+    passing_later _ _ c.loop-n.n (omega arith) (sym c.stands_at-stood.ensures.stands_value ∙ c.if-stood.false) ∙ c.loop-n.invariant
 
 pub returns : goal.returns
 returns c =
-    sym (sym c.loop-n.invariant.1 ∙ passing_end _ _ c.loop-n.n (omega arith))
+    rw (← c.places_in-most.ensures) (sym (passing_end _ _ c.loop-n.n (omega arith)) ∙ c.loop-n.invariant)

@@ -2,8 +2,7 @@
 use mathlib.Core.Path.{◌∙◌}
 use native.Mathlib.Omega.{arith}
 use Rattle.overlapsearch.proofs.Passing.{shares-stands}
-use Rattle.lists.proofs.Parts.{part-front}
 use Rattle.overlapsearch.proofs.shared.is_shared.Goals as goal
 
 pub returns : goal.returns
-returns c = rw part-front at c.stands_at-stood.ensures.stands_value ∙ shares-stands _ _ _ (omega arith) (omega arith)
+returns c = c.stands_at-stood.ensures.stands_value ∙ shares-stands _ _ _ (omega arith) (omega arith)

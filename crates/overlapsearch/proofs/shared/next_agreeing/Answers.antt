@@ -6,15 +6,12 @@ use Rattle.overlapsearch.proofs.shared.next_agreeing.Goals as goal
 
 pub returns-then-two_same : goal.returns-then-two_same
 returns-then-two_same c =
-    sym (agreeing_here _ _ _ c.loop-k.k (omega arith) (sym c.two_same.ensures ∙ c.if-two_same.true)) ∙ c.loop-k.invariant.2
+    sym (agreeing_here _ _ _ c.loop-k.k (omega arith) (sym c.two_same.ensures ∙ c.if-two_same.true)) ∙ c.loop-k.invariant
 
 pub loop-k-preserved : goal.loop-k-preserved
-loop-k-preserved c = (
-  omega arith,
-  omega arith,
-  agreeing_later _ _ _ c.loop-k.k (omega arith) (sym c.two_same.ensures ∙ c.if-two_same.false) ∙ c.loop-k.invariant.2,
-)
+loop-k-preserved c =
+    agreeing_later _ _ _ c.loop-k.k (omega arith) (sym c.two_same.ensures ∙ c.if-two_same.false) ∙ c.loop-k.invariant
 
 pub returns : goal.returns
 returns c =
-    sym (agreeing_end _ _ _ c.loop-k.k (omega arith)) ∙ c.loop-k.invariant.2
+    sym (agreeing_end _ _ _ c.loop-k.k (omega arith)) ∙ c.loop-k.invariant

@@ -1,90 +1,64 @@
 -- `advance` makes the step that comes next.
-use mathlib.Core.Path.{refl, subst}
-use Prim.Native.Nat.{◌<◌}
+use mathlib.Core.Path.{refl}
 use native.Mathlib.Omega.{arith}
 use Rattle.leads.specs.LeadCodes.{lead_codes_in}
 use Rattle.packedsteps.specs.Advance.{AdvancedTo}
-use Rattle.packedsteps.specs.Search.{codes_at, FirstFound}
-use Rattle.packedsteps.specs.declared.Next.{Next}
-use Rattle.packedsteps.specs.declared.Next.TheVariants.{Reducible}
 use Rattle.packedsteps.proofs.TargetLaws.{working-placed, none-pending}
 use Rattle.packedsteps.proofs.Advances.{told-inside, told-spot, pending, too_many, step_made}
 use Rattle.packedsteps.proofs.advance.advance.Goals as goal
 
-pub find_target-next-requires : goal.find_target-next-requires
-find_target-next-requires c =
+pub find_target-requires : goal.find_target-requires
+find_target-requires c =
     let a = c.args in
-    working-placed a.t.now a.c.now a.l.now a.w.now a.o.now a.n c.requires.working.0
+    working-placed a.t.now a.f.now c.requires.working.0
+
+-- nothing is left
+pub returns-in_default : goal.returns-in_default
+unfolding AdvancedTo
+returns-in_default c =
+    let a = c.args in
+    let t = a.t.now in
+    let none = rw c.in_default.is at (c.find_target.ensures (lead_codes_in t) c.requires.tabled.1) in
+    record { advanced_to = (none-pending t c.requires.tabled.0 a.index.now c.requires.tabled.1 a.f.now a.from c.requires.working.1 none, c.requires.working.0, refl) }
 
 -- the budget is spent
 pub returns-then-used-budget : goal.returns-then-used-budget
 unfolding AdvancedTo
 returns-then-used-budget c =
-    let first : let a = c.args in FirstFound (lead_codes_in a.t.now) (codes_at a.l.now a.w.now a.o.now) a.from a.n (Reducible c.in-Reducible.term c.in-Reducible.place c.in-Reducible.number) = let a = c.args in
-    subst (λ (r : Next). FirstFound (lead_codes_in a.t.now) (codes_at a.l.now a.w.now a.o.now) a.from a.n r)
-    c.in-Reducible.is (c.find_target-next.ensures (lead_codes_in a.t.now) c.requires.tabled.1) in
-    let a = c.args in record {
-      advanced_to = (c.if-used-budget.true, pending a.t.now c.requires.tabled.0 a.index.now c.requires.tabled.1 a.c.now a.l.now a.w.now a.o.now a.n c.requires.working.0 a.from c.requires.working.1 _ _ _ (first));
-      left_len_2 = c.requires.left_len;
+    let first = c.in-Some.ensures (lead_codes_in c.args.t.now) c.requires.tabled.1 in
+    record {
+      advanced_to = (c.if-used-budget.true, pending c.requires.tabled.0 c.requires.tabled.1 c.args.f.now c.requires.working.0 _ c.requires.working.1 c.in-Some.target first);
     }
 
-pub step-r-requires : goal.step-r-requires
-step-r-requires c =
-    let first : let a = c.args in FirstFound (lead_codes_in a.t.now) (codes_at a.l.now a.w.now a.o.now) a.from a.n (Reducible c.in-Reducible.term c.in-Reducible.place c.in-Reducible.number) = let a = c.args in
-    subst (λ (r : Next). FirstFound (lead_codes_in a.t.now) (codes_at a.l.now a.w.now a.o.now) a.from a.n r)
-    c.in-Reducible.is (c.find_target-next.ensures (lead_codes_in a.t.now) c.requires.tabled.1) in
-    let a = c.args in
-    let few = c.requires.tabled.3 in
-    let inside = told-inside a.t.now c.requires.tabled.0 a.index.now c.requires.tabled.1 a.c.now a.l.now a.w.now a.o.now a.n c.requires.working.0 a.from c.requires.working.1 _ _ _ (first) in
-    let at = told-spot a.t.now c.requires.tabled.0 a.index.now c.requires.tabled.1 a.c.now a.l.now a.w.now a.o.now a.n c.requires.working.0 a.from c.requires.working.1 _ _ _ (first) in
-    record {
-      tabled = (c.requires.tabled.0, c.requires.working.0, inside, omega arith);
-      left_len = c.requires.left_len;
-      k_value = at;
-    }
+pub step-coef-requires-clause-tabled : goal.step-coef-requires-clause-tabled
+step-coef-requires-clause-tabled c =
+    let first = c.in-Some.ensures (lead_codes_in c.args.t.now) c.requires.tabled.1 in
+    let inside = told-inside c.requires.tabled.0 c.requires.tabled.1 c.args.f.now c.requires.working.0 _ c.requires.working.1 c.in-Some.target first in
+    (c.requires.tabled.0, c.requires.working.0, inside, omega (arith, c.requires.tabled.3))
+
+pub step-coef-requires-clause-target_spot : goal.step-coef-requires-clause-target_spot
+step-coef-requires-clause-target_spot c =
+    let first = c.in-Some.ensures (lead_codes_in c.args.t.now) c.requires.tabled.1 in
+    told-spot c.requires.tabled.0 c.requires.tabled.1 c.args.f.now c.requires.working.0 _ c.requires.working.1 c.in-Some.target first
 
 -- too many terms
-pub returns-then-r-gt512 : goal.returns-then-r-gt512
+pub returns-then-f-gt-MOST_TERMS : goal.returns-then-f-gt-MOST_TERMS
 unfolding AdvancedTo
-returns-then-r-gt512 c =
-    let first : let a = c.args in FirstFound (lead_codes_in a.t.now) (codes_at a.l.now a.w.now a.o.now) a.from a.n (Reducible c.in-Reducible.term c.in-Reducible.place c.in-Reducible.number) = let a = c.args in
-    subst (λ (r : Next). FirstFound (lead_codes_in a.t.now) (codes_at a.l.now a.w.now a.o.now) a.from a.n r)
-    c.in-Reducible.is (c.find_target-next.ensures (lead_codes_in a.t.now) c.requires.tabled.1) in
-    let more : let a = c.args in a.used < a.budget = let within = c.requires.tabled.2 in
-    let other = c.if-used-budget.false in
-    omega arith in
-    let a = c.args in
-    let r = c.step-r.ensures in record {
-      advanced_to = too_many a.t.now c.requires.tabled.0 a.index.now c.requires.tabled.1 a.c.now a.l.now a.w.now a.o.now a.n c.requires.working.0 a.from c.requires.working.1 _ _ _ (first)
-          a.used a.budget (more) c.step-r.new.c c.step-r.new.l c.step-r.new.w c.step-r.new.o c.step-r.result.terms
-          r.terms_after c.if-r-gt512.true;
-      left_len_2 = (r.line_taken.left-held.six, r.line_taken.right-held.six, r.terms_bound.1);
-    }
-
--- nothing is left
-pub returns-in-Reduced : goal.returns-in-Reduced
-unfolding AdvancedTo
-returns-in-Reduced c =
-    let a = c.args in
-    let t = a.t.now in
-    let none = rw c.in-Reduced.is at (c.find_target-next.ensures (lead_codes_in t) c.requires.tabled.1) in record {
-      advanced_to = (none-pending t c.requires.tabled.0 a.index.now c.requires.tabled.1 a.c.now a.l.now a.w.now a.o.now a.n a.from c.requires.working.1 none, c.requires.working.0, refl);
-      left_len_2 = c.requires.left_len;
-    }
+returns-then-f-gt-MOST_TERMS c =
+    let first = c.in-Some.ensures (lead_codes_in c.args.t.now) c.requires.tabled.1 in
+    let many = too_many c.requires.tabled.0 c.requires.tabled.1 c.args.f.now c.requires.working.0 _ c.requires.working.1 c.in-Some.target first
+    c.args.used c.args.budget (omega (arith, c.requires.tabled.2, c.if-used-budget.false)) c.step-coef.new.f c.step-coef.ensures.terms_after
+    c.if-f-gt-MOST_TERMS.true in
+    record { advanced_to = (refl, many) }
 
 -- the step was made
-pub returns-else-r-gt512 : goal.returns-else-r-gt512
+pub returns : goal.returns
 unfolding AdvancedTo
-returns-else-r-gt512 c =
-    let first : let a = c.args in FirstFound (lead_codes_in a.t.now) (codes_at a.l.now a.w.now a.o.now) a.from a.n (Reducible c.in-Reducible.term c.in-Reducible.place c.in-Reducible.number) = let a = c.args in
-    subst (λ (r : Next). FirstFound (lead_codes_in a.t.now) (codes_at a.l.now a.w.now a.o.now) a.from a.n r)
-    c.in-Reducible.is (c.find_target-next.ensures (lead_codes_in a.t.now) c.requires.tabled.1) in
-    let more : let a = c.args in a.used < a.budget = let within = c.requires.tabled.2 in
-    let other = c.if-used-budget.false in
-    omega arith in
-    let a = c.args in
-    let r = c.step-r.ensures in record {
-      advanced_to = step_made a.t.now c.requires.tabled.0 a.index.now c.requires.tabled.1 a.c.now a.l.now a.w.now a.o.now a.n c.requires.working.0 a.from c.requires.working.1 _ _ _ (first)
-          a.used a.budget (more) _ _ _ _ c.step-r.result.terms r.terms_after _ _ _ _ _ c.if-r-gt512.false r.working r.line_taken;
-      left_len_2 = (r.line_taken.left-held.six, r.line_taken.right-held.six, r.terms_bound.1);
+returns c =
+    let first = c.in-Some.ensures (lead_codes_in c.args.t.now) c.requires.tabled.1 in
+    let r = c.step-coef.ensures in
+    record {
+      advanced_to = step_made c.requires.tabled.0 c.requires.tabled.1 c.args.f.now c.requires.working.0 _ c.requires.working.1 c.in-Some.target first
+          c.args.used c.args.budget (omega (arith, c.requires.tabled.2, c.if-used-budget.false)) c.step-coef.new.f r.terms_after _ _ _
+          c.if-f-gt-MOST_TERMS.false r.working r.line_taken;
     }

@@ -6,35 +6,31 @@ use Rattle.packedsteps.specs.Search.{codes_at}
 use Rattle.packedsteps.proofs.NoneFound.{none-next, none_left, found_here}
 use Rattle.packedsteps.proofs.search.find_target.Goals as goal
 
-pub loop-k-init : goal.loop-k-init
-loop-k-init c = (omega arith, λ ls i j lo hi. absurd (omega arith))
-
-pub spot_term-spotted-requires : goal.spot_term-spotted-requires
-spot_term-spotted-requires c =
+pub spot_term-requires : goal.spot_term-requires
+spot_term-requires c =
     let P = c.requires in
     let inside = c.loop-k-test.true in
     let count = P.count in
     record {
-      w_len = (P.blocks, omega arith, P.place c.loop-k.k inside);
+      term = (omega arith, P.place c.loop-k.k inside);
       packs = P.packs c.loop-k.k inside;
     }
 
-pub returns-in-Found : goal.returns-in-Found
+pub returns-in-Some : goal.returns-in-Some
 unfolding seen
-returns-in-Found c =
+returns-in-Some c =
     let a = c.args in
-    let e = rw c.in-Found.is at c.spot_term-spotted.ensures in
-    λ ls h. found_here ls (codes_at a.l.now a.w.now a.o.now) a.from c.loop-k.k (c.loop-k.invariant.1 ls h) a.n _ _ c.loop-k.invariant.0 c.loop-k-test.true (sym (e ls h))
+    let e = rw (c.in-Some.is, c.in-Some.field-0-is) at c.spot_term.ensures in
+    λ ls h. found_here ls (codes_at a.f.now) a.from c.loop-k.k (c.loop-k.invariant ls h) a.f.now.terms _ _ (omega arith) c.loop-k-test.true (sym (e ls h))
 
 pub loop-k-preserved : goal.loop-k-preserved
 unfolding seen
 loop-k-preserved c =
     let a = c.args in
-    let lo = c.loop-k.invariant.0 in
-    let e = rw c.in_default.is at c.spot_term-spotted.ensures in
-    (omega arith, λ ls h. none-next ls (codes_at a.l.now a.w.now a.o.now) a.from c.loop-k.k (c.loop-k.invariant.1 ls h) (sym (e ls h)))
+    let e = rw c.in_default.is at c.spot_term.ensures in
+    λ ls h. none-next ls (codes_at a.f.now) a.from c.loop-k.k (c.loop-k.invariant ls h) (sym (e ls h))
 
 pub returns : goal.returns
 returns c =
     let a = c.args in
-    λ ls h. none_left ls (codes_at a.l.now a.w.now a.o.now) a.from c.loop-k.k (c.loop-k.invariant.1 ls h) a.n c.loop-k-test.false
+    λ ls h. none_left ls (codes_at a.f.now) a.from c.loop-k.k (c.loop-k.invariant ls h) a.f.now.terms c.loop-k-test.false

@@ -1,6 +1,6 @@
 use mathlib.Core.Path.{◌≡◌}
 use mathlib.Core.List.{map}
-use Prim.Native.Nat.{◌+◌, ◌-◌, ◌*◌, ◌≤◌}
+use Prim.Native.Nat.{◌+◌, ◌*◌}
 use lib.ListN.{length, drop}
 use lib.Seq.{sets}
 use Rattle.packedwords.specs.Packed.{unpacked}
@@ -8,12 +8,7 @@ use Rattle.table.specs.Table.{letter_in}
 use Rattle.packedterms.specs.Formula.{blocks_at}
 use Rattle.packedtexts.proofs.writing.put_letters.Given as goal
 
-abbrev pub invariant-loop-i : goal.invariant-loop-i
-invariant-loop-i l =
-    (l.i ≤ l.m)
-    × (l.i ≡ 12 * l.j)
-    × (length l.out ≡ length l.initial.out)
-    × (sets l.out (l.at + l.i) (drop l.i (map (letter_in l.t) (unpacked l.m (blocks_at l.w l.s)))) ≡ sets l.initial.out l.at (map (letter_in l.t) (unpacked l.m (blocks_at l.w l.s))))
-
-abbrev pub decreases-loop-i : goal.decreases-loop-i
-decreases-loop-i l = l.m - l.i
+abbrev pub invariant-loop-j : goal.invariant-loop-j
+invariant-loop-j l =
+    (length l.out ≡ length l.initial.out)
+    × (sets l.out (l.at + 12 * l.j) (drop (12 * l.j) (map (letter_in l.t) (unpacked l.m (blocks_at l.f.blocks l.s)))) ≡ sets l.initial.out l.at (map (letter_in l.t) (unpacked l.m (blocks_at l.f.blocks l.s))))

@@ -1,8 +1,8 @@
 -- `left_part` puts the first letters. The loop's invariant: the first j blocks are those of the part, and zeros follow.
-use mathlib.Core.Path.{◌≡◌, ◌∙◌, ap}
-use Prim.Native.Nat.{ℕ, ◌-◌, ◌*◌, ◌≤◌}
+use mathlib.Core.Path.{◌≡◌, refl, ◌∙◌, ap}
+use Prim.Native.Nat.{◌-◌, ◌*◌, ◌≤◌}
 use native.Mathlib.Omega.{arith}
-use lib.ListN.{get_or, take}
+use lib.ListN.{get_or, take, replicate}
 use lib.Seq.{length-take-le}
 use Rattle.packedwords.specs.Packed.{front, unpacked}
 use Rattle.packedwords.proofs.Packing.{unpacked-codes, unpacked-length}
@@ -20,23 +20,21 @@ returns-then-m-le24 c =
     let size = length-take-le i w (omega (arith, unpacked-length m S)) in
     let none : i ≡ i - 12 * 0 = omega arith in
     let first = c.front.ensures ∙ ap (front (get_or S 0 0)) none ∙ left-block m S c.requires.packs i 0 in
-    let second = c.front-then-m-le24.ensures ∙ ap (front (get_or S 1 0)) c.behind.ensures ∙ left-block m S c.requires.packs i 1 in
-    let p = two_filled (take i w) i _ _ _ c.clear.ensures (codes-take i w (unpacked-codes m S)) size short first second in
+    let second = c.front-then-m-le24.ensures ∙ ap (front (get_or S 1 0)) c.saturating_sub.ensures ∙ left-block m S c.requires.packs i 1 in
+    let p = two_filled (take i w) i _ _ (replicate 6 0) refl (codes-take i w (unpacked-codes m S)) size short first second in
     record {
       dst_len = (p.0, p.1);
       dst_after = p.2;
     }
 
-pub loop-k-init : goal.loop-k-init
-loop-k-init c = (omega arith, filled_none _ _ c.clear.ensures)
+pub loop-j-init : goal.loop-j-init
+loop-j-init c = filled_none _ _ refl
 
-pub loop-k-preserved : goal.loop-k-preserved
-loop-k-preserved c =
-    let S = c.args.src.now in
-    let i = c.args.i in
-    let j = c.loop-k.j in
-    let block = c.front-in-loop-k.ensures ∙ ap (λ (k : ℕ). front (get_or S j 0) (i - k)) c.loop-k.invariant.0 ∙ left-block c.args.m S c.requires.packs i j in
-    (omega arith, filled_more _ j _ _ c.loop-k.invariant.1 (omega (arith, c.loop-k.invariant.0, c.loop-k-test.true)) block)
+pub loop-j-preserved : goal.loop-j-preserved
+loop-j-preserved c =
+    let j = c.loop-j.j in
+    let block = c.front-in-loop-j.ensures ∙ left-block c.args.m c.args.src.now c.requires.packs c.args.i j in
+    filled_more _ j _ _ c.loop-j.invariant (omega (arith, c.div_ceil-j-end.ensures, c.loop-j-test.true)) block
 
 pub returns : goal.returns
 returns c =
@@ -44,11 +42,11 @@ returns c =
     let i = c.args.i in
     let S = c.args.src.now in
     let w = unpacked m S in
-    let f = c.loop-k.invariant.1 in
+    let f = c.loop-j.invariant in
     let codes = codes-take i w (unpacked-codes m S) in
     let size = length-take-le i w (omega (arith, unpacked-length m S)) in
-    let end : i ≤ 12 * c.loop-k.j = omega (arith, c.loop-k.invariant.0, c.loop-k-test.false) in
-    let p = filled_packs (take i w) c.loop-k.j i _ f codes size (omega arith) end in
+    let end : i ≤ 12 * c.loop-j.j = omega (arith, c.div_ceil-j-end.ensures, c.loop-j-test.false) in
+    let p = filled_packs (take i w) c.loop-j.j i _ f codes size (omega arith) end in
     record {
       dst_len = (f.first.size, p.0);
       dst_after = p.1;

@@ -1,9 +1,8 @@
 -- `right_part` puts the letters from a place on. The loop's invariant: the first j blocks are those of the part, and zeros follow.
-use mathlib.Core.Path.{◌≡◌, ◌∙◌, ap}
-use mathlib.Core.List.{List}
+use mathlib.Core.Path.{◌≡◌, refl, ◌∙◌, ap}
 use Prim.Native.Nat.{ℕ, ◌+◌, ◌-◌, ◌*◌, ◌≤◌}
 use native.Mathlib.Omega.{arith}
-use lib.ListN.{length, drop, replicate, length-drop, length-replicate}
+use lib.ListN.{drop, replicate, length-drop}
 use Rattle.packedwords.specs.Packed.{window_of, unpacked}
 use Rattle.packedwords.proofs.Packing.{unpacked-codes, unpacked-length}
 use Rattle.packedwords.proofs.Blocks.{packs-blocks}
@@ -11,16 +10,11 @@ use Rattle.packedwords.proofs.Parts.{codes-drop, right-block}
 use Rattle.packing.proofs.Filling.{filled_none, filled_more, filled_packs, two_filled}
 use Rattle.packing.proofs.part.right_part.Goals as goal
 
--- what is cleared has six blocks
-six-zeros : {d : List ℕ} → d ≡ replicate 6 0 → length d ≡ 6
-six-zeros e = let none : ℕ = 0 in ap length e ∙ length-replicate 6 none
-
 pub two_windows-requires : goal.two_windows-requires
 two_windows-requires c =
-    let e = c.clear.ensures in
     let l = c.requires.i_le_m.0 in
     let m = c.if-m-le24.true in
-    (omega arith, packs-blocks c.args.m c.args.src.now c.requires.packs, c.requires.i_le_m.3, six-zeros e)
+    (omega arith, packs-blocks c.args.m c.args.src.now c.requires.packs, c.requires.i_le_m.3, refl)
 
 pub returns-then-m-le24 : goal.returns-then-m-le24
 returns-then-m-le24 c =
@@ -33,25 +27,24 @@ returns-then-m-le24 c =
     let none : i ≡ i + 0 = omega arith in
     let first = ap (window_of S) none ∙ right-block m S c.requires.packs i 0 in
     let second = right-block m S c.requires.packs i 12 in
-    let p = two_filled (drop i w) (m - i) _ _ _ c.clear.ensures (codes-drop i w (unpacked-codes m S)) size short first second in
+    let p = two_filled (drop i w) (m - i) _ _ (replicate 6 0) refl (codes-drop i w (unpacked-codes m S)) size short first second in
     record {
       dst_len = rw c.two_windows.ensures (p.0, p.1);
       dst_after = rw c.two_windows.ensures p.2;
     }
 
-pub loop-k-init : goal.loop-k-init
-loop-k-init c = (omega arith, filled_none _ _ c.clear.ensures)
+pub loop-j-init : goal.loop-j-init
+loop-j-init c = filled_none _ _ refl
 
 pub window_at-requires : goal.window_at-requires
 window_at-requires c =
     packs-blocks c.args.m c.args.src.now c.requires.packs
 
-pub loop-k-preserved : goal.loop-k-preserved
-loop-k-preserved c =
-    let S = c.args.src.now in
-    let j = c.loop-k.j in
-    let block = c.window_at.ensures ∙ ap (window_of S) c.loop-k.invariant.0 ∙ right-block c.args.m S c.requires.packs c.args.i (12 * j) in
-    (omega arith, filled_more _ j _ _ c.loop-k.invariant.1 (omega (arith, c.loop-k.invariant.0, c.loop-k-test.true)) block)
+pub loop-j-preserved : goal.loop-j-preserved
+loop-j-preserved c =
+    let j = c.loop-j.j in
+    let block = c.window_at.ensures ∙ right-block c.args.m c.args.src.now c.requires.packs c.args.i (12 * j) in
+    filled_more _ j _ _ c.loop-j.invariant (omega (arith, c.div_ceil-j-end.ensures, c.loop-j-test.true)) block
 
 pub returns : goal.returns
 returns c =
@@ -59,11 +52,11 @@ returns c =
     let i = c.args.i in
     let S = c.args.src.now in
     let w = unpacked m S in
-    let f = c.loop-k.invariant.1 in
+    let f = c.loop-j.invariant in
     let codes = codes-drop i w (unpacked-codes m S) in
     let size = length-drop i w ∙ ap (λ (x : ℕ). x - i) (unpacked-length m S) in
-    let end : m - i ≤ 12 * c.loop-k.j = omega (arith, c.loop-k.invariant.0, c.loop-k-test.false) in
-    let p = filled_packs (drop i w) c.loop-k.j (m - i) _ f codes size (omega arith) end in
+    let end : m - i ≤ 12 * c.loop-j.j = omega (arith, c.div_ceil-j-end.ensures, c.loop-j-test.false) in
+    let p = filled_packs (drop i w) c.loop-j.j (m - i) _ f codes size (omega arith) end in
     record {
       dst_len = (f.first.size, p.0);
       dst_after = p.1;

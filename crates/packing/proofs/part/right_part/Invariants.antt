@@ -1,13 +1,7 @@
-use mathlib.Core.Path.{◌≡◌}
-use Prim.Native.Nat.{◌+◌, ◌-◌, ◌*◌}
 use lib.ListN.{drop}
 use Rattle.packedwords.specs.Packed.{unpacked}
 use Rattle.packing.proofs.Filling.{Filled}
 use Rattle.packing.proofs.part.right_part.Given as goal
 
-abbrev pub invariant-loop-k : goal.invariant-loop-k
-invariant-loop-k l =
-    (l.k ≡ l.i + 12 * l.j) × Filled (drop l.i (unpacked l.m l.src)) l.j l.dst
-
-abbrev pub decreases-loop-k : goal.decreases-loop-k
-decreases-loop-k l = l.m - l.k
+abbrev pub invariant-loop-j : goal.invariant-loop-j
+invariant-loop-j l = Filled (drop l.i (unpacked l.m l.src)) l.j l.dst

@@ -39,4 +39,4 @@ returns c =
     let p = unpacked-length c.args.n c.args.b.now in
     let q = unpacked-length c.args.m c.args.w.now in
     let i = c.loop-at.invariant in
-    sym (sym i.2 ∙ leftmost-none _ _ c.loop-at.at (omega (arith, q, i.1)) (omega (arith, p, q, i.0, c.loop-at-test.false)))
+    sym (sym i.2 ∙ leftmost-none _ _ c.loop-at.at (omega (arith, q, i.1)) (omega (arith, p, q, c.if-m-n.false, c.loop-at-test.false)))

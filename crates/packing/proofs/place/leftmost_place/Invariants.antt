@@ -1,5 +1,5 @@
 use mathlib.Core.Path.{◌≡◌}
-use Prim.Native.Nat.{◌+◌, ◌-◌, ◌≤◌}
+use Prim.Native.Nat.{◌≤◌}
 use lib.ListN.{drop}
 use Rattle.words.specs.Place.{leftmost_from, leftmost}
 use Rattle.packedwords.specs.Packed.{unpacked}
@@ -7,7 +7,4 @@ use Rattle.packing.proofs.place.leftmost_place.Given as goal
 
 abbrev pub invariant-loop-at : goal.invariant-loop-at
 invariant-loop-at l =
-    (l.last + l.n ≡ l.m) × (l.at ≤ l.m) × (leftmost_from (unpacked l.n l.b) (drop l.at (unpacked l.m l.w)) l.at ≡ leftmost (unpacked l.n l.b) (unpacked l.m l.w))
-
-abbrev pub decreases-loop-at : goal.decreases-loop-at
-decreases-loop-at l = l.m + 1 - l.at
+    (l.n ≤ l.m) × (l.at ≤ l.m) × (leftmost_from (unpacked l.n l.b) (drop l.at (unpacked l.m l.w)) l.at ≡ leftmost (unpacked l.n l.b) (unpacked l.m l.w))

@@ -6,7 +6,6 @@ use native.Mathlib.Omega.{arith}
 use lib.ListN.{get_or, take, drop, replicate}
 use Rattle.lists.proofs.Parts.{part_length}
 use Rattle.packedwords.proofs.Blocks.{packs-blocks}
-use Rattle.packing.proofs.Stores.{sets_whole}
 use Rattle.packing.proofs.ThreeStores.{first_of_two, second_of_two, first-lt, second_lt, short_stores}
 use Rattle.packing.proofs.product.begin_short.Goals as goal
 
@@ -36,7 +35,7 @@ returns c =
     let e = c.up-third.ensures.0 ∙ ap (λ (b : ℕ). b * 2 ^ (60 - m * 5) % 2 ^ 60) y in
     let two = part_length from 2 word c.requires.a_bound.3 in
     let p = short_stores L (take 2 (drop from word)) m c.args.n c.requires.packs.0 c.requires.packs.1 c.requires.a_bound.0 c.requires.a_bound.1 two _ _ _
-    (ap (λ (b : ℕ). get_or L 0 0 + b) a) (ap₂ (λ (b c : ℕ). b + c) b d) e _ (sets_whole c.args.dst.now (_ ∷ _ ∷ _ ∷ replicate 6 0) c.requires.a_bound.2) in
+    (ap (λ (b : ℕ). get_or L 0 0 + b) a) (ap₂ (λ (b c : ℕ). b + c) b d) e (_ ∷ _ ∷ _ ∷ replicate 6 0) refl in
     record {
       value = (refl, p.0, p.1);
       dst_after = p.2;

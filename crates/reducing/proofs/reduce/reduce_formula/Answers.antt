@@ -1,73 +1,66 @@
--- `reduce_formula` reads the formula, loads it into the arrays, makes the index of the leading words and reduces what the arrays hold by it.
+-- `reduce_formula` reads the formula, loads it, makes the index of the leading words and reduces what was loaded by it.
 use mathlib.Core.Path.{◌∙◌}
-use Prim.Native.Nat.{◌-◌}
 use native.Mathlib.Omega.{arith}
-use lib.ListN.{take}
+use Rattle.std.proofs.lemmas.Result.{err_from_is_err_and}
 use Rattle.package.specs.Held.{seen_formula, count_formula}
-use Rattle.table.specs.Table.{prime_in, letters_in}
 use Rattle.reducing.specs.Reductions.{seen_reduced, ShortHeld}
 use Rattle.reducing.proofs.BlankIndex.{zeros_blank}
 use Rattle.reducing.proofs.Cases.{wrong_refused, run-reduced}
-use Rattle.reducing.proofs.FormulaRead.{Read, answered}
+use Rattle.reducing.proofs.FormulaRead.{answered}
 use Rattle.reducing.proofs.reduce.reduce_formula.Goals as goal
+
+pub returns-in_err-n : goal.returns-in_err-n
+unfolding seen_reduced ShortHeld seen_formula
+returns-in_err-n c =
+    let r = c.in_err-n.ensures in
+    let e = wrong_refused _ _ _ _ (rw (c.prime_in-p.ensures, c.letters_in-letters.ensures) at r.result_after) in
+    let p = err_from_is_err_and c.from_residual.result c.from_residual.ensures.1 in
+    rw (p.1, p.2) (record {
+      result_after = rw r.number e;
+      short_held = tt;
+    })
 
 pub slice_bounds-load-end : goal.slice_bounds-load-end
 unfolding count_formula
 slice_bounds-load-end c =
-    let b = rw c.in-Formula.is at c.read_formula-r.ensures.result_bound in
+    let b = c.in_ok-n.ensures.result_bound in
     omega (arith, b.0)
 
-pub load-m-requires : goal.load-m-requires
-load-m-requires c =
-    let formula_in : Read (prime_in c.args.t.now) (letters_in c.args.t.now) (take (c.in-Formula.n - 0) c.read_formula-r.new.coefs) (take (c.in-Formula.n - 0) c.read_formula-r.new.starts) (take (c.in-Formula.n - 0) c.read_formula-r.new.lens) c.args.text.now = let g = c.in-Formula.is in
-    let p = c.prime_in-p.ensures in
-    let l = c.letters_in-letters.ensures in
-    answered _ _ _ _ _ _ _ _ _ _ p l g c.read_formula-r.ensures.result_after c.read_formula-r.ensures.result_bound c.requires.0.letters (omega (arith, c.read_formula-r.auto)) (omega (arith, c.read_formula-r.auto)) (omega (arith, c.read_formula-r.auto)) in
-    let r = formula_in in
+pub load-requires : goal.load-requires
+load-requires c =
+    let e = c.read_formula.ensures in
+    let auto = c.read_formula.auto in
+    let r = answered _ _ _ _ _ _ _ _ _ _ c.prime_in-p.ensures c.letters_in-letters.ensures c.in_ok-n.was e.result_after e.result_bound c.requires.letters (omega (arith, auto)) (omega (arith, auto)) (omega (arith, auto)) in
     let z = c.requires in
     record {
-      tabled = (z.0, r.given, omega (arith, r.few));
+      tabled = (z, r.given, omega (arith, r.few));
       by_index = r.lettered;
       written = r.written;
-      room = z.1;
     }
 
 pub index_leads-requires : goal.index_leads-requires
 index_leads-requires c =
     let z = c.requires in
     record {
-      tabled = z.0;
+      tabled = z;
       code_blank = zeros_blank;
     }
 
 pub reduce_held-requires : goal.reduce_held-requires
 reduce_held-requires c =
-    let formula_in : Read (prime_in c.args.t.now) (letters_in c.args.t.now) (take (c.in-Formula.n - 0) c.read_formula-r.new.coefs) (take (c.in-Formula.n - 0) c.read_formula-r.new.starts) (take (c.in-Formula.n - 0) c.read_formula-r.new.lens) c.args.text.now = let g = c.in-Formula.is in
-    let p = c.prime_in-p.ensures in
-    let l = c.letters_in-letters.ensures in
-    answered _ _ _ _ _ _ _ _ _ _ p l g c.read_formula-r.ensures.result_after c.read_formula-r.ensures.result_bound c.requires.0.letters (omega (arith, c.read_formula-r.auto)) (omega (arith, c.read_formula-r.auto)) (omega (arith, c.read_formula-r.auto)) in
-    let z = c.requires in
-    let e = c.load-m.ensures in
-    (z.0, c.index_leads.ensures, e.working, omega (arith, e.value, (formula_in).few))
+    let e = c.read_formula.ensures in
+    let auto = c.read_formula.auto in
+    let r = answered _ _ _ _ _ _ _ _ _ _ c.prime_in-p.ensures c.letters_in-letters.ensures c.in_ok-n.was e.result_after e.result_bound c.requires.letters (omega (arith, auto)) (omega (arith, auto)) (omega (arith, auto)) in
+    let l = c.load.ensures in
+    (c.requires, c.index_leads.ensures, l.working, omega (arith, l.value, r.few))
 
-pub returns-in-Refused : goal.returns-in-Refused
-unfolding seen_reduced ShortHeld seen_formula
-returns-in-Refused c =
-    let e = rw c.in-Refused.is at c.read_formula-r.ensures.result_after in
+pub returns : goal.returns
+returns c =
+    let e = c.read_formula.ensures in
+    let auto = c.read_formula.auto in
+    let r = answered _ _ _ _ _ _ _ _ _ _ c.prime_in-p.ensures c.letters_in-letters.ensures c.in_ok-n.was e.result_after e.result_bound c.requires.letters (omega (arith, auto)) (omega (arith, auto)) (omega (arith, auto)) in
+    let h = c.reduce_held.ensures in
     record {
-      result_after = wrong_refused _ _ _ _ (rw (c.prime_in-p.ensures, c.letters_in-letters.ensures) at e);
-      short_held = tt;
-    }
-
-pub returns-in-Formula : goal.returns-in-Formula
-returns-in-Formula c =
-    let formula_in : Read (prime_in c.args.t.now) (letters_in c.args.t.now) (take (c.in-Formula.n - 0) c.read_formula-r.new.coefs) (take (c.in-Formula.n - 0) c.read_formula-r.new.starts) (take (c.in-Formula.n - 0) c.read_formula-r.new.lens) c.args.text.now = let g = c.in-Formula.is in
-    let p = c.prime_in-p.ensures in
-    let l = c.letters_in-letters.ensures in
-    answered _ _ _ _ _ _ _ _ _ _ p l g c.read_formula-r.ensures.result_after c.read_formula-r.ensures.result_bound c.requires.0.letters (omega (arith, c.read_formula-r.auto)) (omega (arith, c.read_formula-r.auto)) (omega (arith, c.read_formula-r.auto)) in
-    let r = formula_in in
-    let e = c.reduce_held.ensures in
-    record {
-      result_after = e.result_after ∙ run-reduced _ _ _ _ _ r.reads c.load-m.ensures.result_after;
-      short_held = e.short_held;
+      result_after = h.result_after ∙ run-reduced _ _ _ _ _ r.reads c.load.ensures.loaded;
+      short_held = h.short_held;
     }

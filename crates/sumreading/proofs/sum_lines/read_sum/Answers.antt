@@ -1,102 +1,104 @@
 -- `read_sum` reads what `sum_form` gives, field by field.
+use mathlib.Core.Path.{sym}
 use native.Mathlib.Omega.{arith}
-use Rattle.package.specs.Held.{SumInside}
-use Rattle.fieldreading.proofs.FieldReading.{seen-none-word, seen-some-word, next-word-le, span_le, seen_none, seen-some, next_le}
-use Rattle.sumreading.proofs.LineFields.{line-kind, line-item, line-coef, line-left, line_of, line-right, line-sum, line-behind, sum-seen, further, seen_no_last, seen_last}
+use lib.ListN.{drop}
+use Rattle.package.specs.Held.{seen_sum, SumInside, seen_line_word}
+use Rattle.text.specs.Answers.{seen_num, next_num, seen_word_at, next_word, span_word}
+use Rattle.text.specs.Pieces.{lines, part}
+use Rattle.sumreading.proofs.LineFields.{line-kind, line-item, line-coef, line-left, line_of, line-right, line-sum, line-behind, further}
 use Rattle.sumreading.proofs.sum_lines.read_sum.Goals as goal
 
-pub returns-in_default : goal.returns-in_default
-unfolding SumInside
-returns-in_default c = record {
-  result_value = line-kind _ _ (seen_none _ _ _ c.in_default.is c.inner_rank.ensures.result_value);
-  sum_inside = tt;
-}
+pub returns-in_err-kind : goal.returns-in_err-kind
+unfolding seen_sum seen_num SumInside
+returns-in_err-kind c =
+    let a = c.args in
+    let s = a.s.now in
+    rw c.from_residual.ensures (record {
+      result_value = line-kind (drop a.at s) s (sym c.in_err-kind.ensures.result_value);
+      sum_inside = tt;
+    })
 
 pub inner_number-requires : goal.inner_number-requires
-inner_number-requires c = next_le _ _ _ _ c.in-Read.is c.inner_rank.ensures.result_in_bounds
+unfolding next_num
+inner_number-requires c = c.in_ok-kind.ensures.result_in_bounds
 
-pub returns-in_default-inner_number : goal.returns-in_default-inner_number
-unfolding SumInside
-returns-in_default-inner_number c =
-    record {
-      result_value = line-item _ _ _ (seen-some _ _ _ _ _ c.in-Read.is c.inner_rank.ensures.result_value)
-          _ (seen_none _ _ _ c.in_default-inner_number.is c.inner_number.ensures.result_value);
+pub returns-in_err-item : goal.returns-in_err-item
+unfolding seen_sum seen_num SumInside
+returns-in_err-item c =
+    let a = c.args in
+    let s = a.s.now in
+    rw c.from_residual-in_err-item.ensures (record {
+      result_value = line-item (drop a.at s) c.in_ok-kind.kind.value (drop c.in_ok-kind.kind.next s) (sym c.in_ok-kind.ensures.result_value) s (sym c.in_err-item.ensures.result_value);
       sum_inside = tt;
-    }
+    })
 
 pub inner_number-requires-2 : goal.inner_number-requires-2
-inner_number-requires-2 c = next_le _ _ _ _ c.in-Read-inner_number.is c.inner_number.ensures.result_in_bounds
+unfolding next_num
+inner_number-requires-2 c = c.in_ok-item.ensures.result_in_bounds
 
-pub returns-in_default-inner_number-2 : goal.returns-in_default-inner_number-2
-unfolding SumInside
-returns-in_default-inner_number-2 c =
-    record {
-      result_value = line-coef _ _ _ (seen-some _ _ _ _ _ c.in-Read.is c.inner_rank.ensures.result_value) _ _
-          (seen-some _ _ _ _ _ c.in-Read-inner_number.is c.inner_number.ensures.result_value)
-          _ (seen_none _ _ _ c.in_default-inner_number-2.is c.inner_number-2.ensures.result_value);
+pub returns-in_err-coef : goal.returns-in_err-coef
+unfolding seen_sum seen_num SumInside
+returns-in_err-coef c =
+    let a = c.args in
+    let s = a.s.now in
+    rw c.from_residual-in_err-coef.ensures (record {
+      result_value = line-coef (drop a.at s) c.in_ok-kind.kind.value (drop c.in_ok-kind.kind.next s) (sym c.in_ok-kind.ensures.result_value) c.in_ok-item.item.value (drop c.in_ok-item.item.next s) (sym c.in_ok-item.ensures.result_value) s (sym c.in_err-coef.ensures.result_value);
       sum_inside = tt;
-    }
+    })
 
 pub inner_word-requires : goal.inner_word-requires
-inner_word-requires c = next_le _ _ _ _ c.in-Read-inner_number-2.is c.inner_number-2.ensures.result_in_bounds
+unfolding next_num
+inner_word-requires c = c.in_ok-coef.ensures.result_in_bounds
 
-pub returns-in_default-inner_word : goal.returns-in_default-inner_word
-unfolding SumInside
-returns-in_default-inner_word c =
-    record {
-      result_value = line-left _ _ _ (seen-some _ _ _ _ _ c.in-Read.is c.inner_rank.ensures.result_value) _ _
-          (seen-some _ _ _ _ _ c.in-Read-inner_number.is c.inner_number.ensures.result_value) _ _
-          (seen-some _ _ _ _ _ c.in-Read-inner_number-2.is c.inner_number-2.ensures.result_value)
-          _ (seen-none-word _ _ _ _ c.in_default-inner_word.is c.inner_word.ensures.result_value);
+pub returns-in_err-left : goal.returns-in_err-left
+unfolding seen_sum seen_num seen_word_at SumInside
+returns-in_err-left c =
+    let a = c.args in
+    let s = a.s.now in
+    rw c.from_residual-in_err-left.ensures (record {
+      result_value = line-left (drop a.at s) c.in_ok-kind.kind.value (drop c.in_ok-kind.kind.next s) (sym c.in_ok-kind.ensures.result_value) c.in_ok-item.item.value (drop c.in_ok-item.item.next s) (sym c.in_ok-item.ensures.result_value) c.in_ok-coef.coef.value (drop c.in_ok-coef.coef.next s) (sym c.in_ok-coef.ensures.result_value) s (sym c.in_err-left.ensures.result_value);
       sum_inside = tt;
-    }
+    })
 
 pub inner_number-requires-3 : goal.inner_number-requires-3
-inner_number-requires-3 c = next-word-le _ _ _ _ c.in-Spans.is c.inner_word.ensures.result_in_bounds
+unfolding next_word
+inner_number-requires-3 c = c.in_ok-left.ensures.result_in_bounds
 
-pub returns-in_default-inner_number-3 : goal.returns-in_default-inner_number-3
-unfolding SumInside
-returns-in_default-inner_number-3 c =
-    record {
-      result_value = line_of _ _ _ (seen-some _ _ _ _ _ c.in-Read.is c.inner_rank.ensures.result_value) _ _
-          (seen-some _ _ _ _ _ c.in-Read-inner_number.is c.inner_number.ensures.result_value) _ _
-          (seen-some _ _ _ _ _ c.in-Read-inner_number-2.is c.inner_number-2.ensures.result_value) _ _
-          (seen-some-word _ _ _ _ _ _ c.in-Spans.is c.inner_word.ensures.result_value)
-          _ (seen_none _ _ _ c.in_default-inner_number-3.is c.inner_number-3.ensures.result_value);
+pub returns-in_err-of : goal.returns-in_err-of
+unfolding seen_sum seen_num seen_word_at SumInside
+returns-in_err-of c =
+    let a = c.args in
+    let s = a.s.now in
+    rw c.from_residual-in_err-of.ensures (record {
+      result_value = line_of (drop a.at s) c.in_ok-kind.kind.value (drop c.in_ok-kind.kind.next s) (sym c.in_ok-kind.ensures.result_value) c.in_ok-item.item.value (drop c.in_ok-item.item.next s) (sym c.in_ok-item.ensures.result_value) c.in_ok-coef.coef.value (drop c.in_ok-coef.coef.next s) (sym c.in_ok-coef.ensures.result_value) (part s c.in_ok-coef.coef.next c.in_ok-left.left.len) (drop c.in_ok-left.left.next s) (sym c.in_ok-left.ensures.result_value) s (sym c.in_err-of.ensures.result_value);
       sum_inside = tt;
-    }
+    })
 
 pub line_word-requires : goal.line_word-requires
-line_word-requires c = next_le _ _ _ _ c.in-Read-inner_number-3.is c.inner_number-3.ensures.result_in_bounds
+unfolding next_num
+line_word-requires c = c.in_ok-of.ensures.result_in_bounds
 
-pub returns-in_default-line_word : goal.returns-in_default-line_word
-unfolding SumInside
-returns-in_default-line_word c =
-    record {
-      result_value = line-right _ _ _ (seen-some _ _ _ _ _ c.in-Read.is c.inner_rank.ensures.result_value) _ _
-          (seen-some _ _ _ _ _ c.in-Read-inner_number.is c.inner_number.ensures.result_value) _ _
-          (seen-some _ _ _ _ _ c.in-Read-inner_number-2.is c.inner_number-2.ensures.result_value) _ _
-          (seen-some-word _ _ _ _ _ _ c.in-Spans.is c.inner_word.ensures.result_value) _ _
-          (seen-some _ _ _ _ _ c.in-Read-inner_number-3.is c.inner_number-3.ensures.result_value)
-          _ (seen_no_last _ _ _ _ c.in_default-line_word.is c.line_word.ensures.result_value);
+pub returns-in_err-right : goal.returns-in_err-right
+unfolding seen_sum seen_num seen_word_at seen_line_word SumInside
+returns-in_err-right c =
+    let a = c.args in
+    let s = a.s.now in
+    rw c.from_residual-in_err-right.ensures (record {
+      result_value = line-right (drop a.at s) c.in_ok-kind.kind.value (drop c.in_ok-kind.kind.next s) (sym c.in_ok-kind.ensures.result_value) c.in_ok-item.item.value (drop c.in_ok-item.item.next s) (sym c.in_ok-item.ensures.result_value) c.in_ok-coef.coef.value (drop c.in_ok-coef.coef.next s) (sym c.in_ok-coef.ensures.result_value) (part s c.in_ok-coef.coef.next c.in_ok-left.left.len) (drop c.in_ok-left.left.next s) (sym c.in_ok-left.ensures.result_value) c.in_ok-of.of.value (drop c.in_ok-of.of.next s) (sym c.in_ok-of.ensures.result_value) s (sym c.in_err-right.ensures.result_value);
       sum_inside = tt;
-    }
+    })
 
 pub returns : goal.returns
-unfolding SumInside
+unfolding seen_sum seen_num seen_word_at seen_line_word next_word span_word SumInside
 returns c =
-    let kind = seen-some _ _ _ _ _ c.in-Read.is c.inner_rank.ensures.result_value in
-    let item = seen-some _ _ _ _ _ c.in-Read-inner_number.is c.inner_number.ensures.result_value in
-    let coef = seen-some _ _ _ _ _ c.in-Read-inner_number-2.is c.inner_number-2.ensures.result_value in
-    let left = seen-some-word _ _ _ _ _ _ c.in-Spans.is c.inner_word.ensures.result_value in
-    let of = seen-some _ _ _ _ _ c.in-Read-inner_number-3.is c.inner_number-3.ensures.result_value in
-    let right = seen_last _ _ _ _ _ _ c.in-Spans-line_word.is c.line_word.ensures.result_value in
-    let next = next-word-le _ _ _ _ c.in-Spans-line_word.is c.line_word.ensures.result_in_bounds in record {
-      result_value = sum-seen _ _ _ _ _ _ _ _ _ _ _ (line-sum _ _ _ kind _ _ item _ _ coef _ _ left _ _ of _ _ right);
+    let a = c.args in
+    let s = a.s.now in
+    let next = c.in_ok-right.ensures.result_in_bounds in record {
+      result_value = line-sum (drop a.at s) c.in_ok-kind.kind.value (drop c.in_ok-kind.kind.next s) (sym c.in_ok-kind.ensures.result_value) c.in_ok-item.item.value (drop c.in_ok-item.item.next s) (sym c.in_ok-item.ensures.result_value) c.in_ok-coef.coef.value (drop c.in_ok-coef.coef.next s) (sym c.in_ok-coef.ensures.result_value) (part s c.in_ok-coef.coef.next c.in_ok-left.left.len) (drop c.in_ok-left.left.next s) (sym c.in_ok-left.ensures.result_value) c.in_ok-of.of.value (drop c.in_ok-of.of.next s) (sym c.in_ok-of.ensures.result_value) (part s c.in_ok-of.of.next c.in_ok-right.right.len) (lines (drop c.in_ok-right.right.next s)) (sym c.in_ok-right.ensures.result_value);
       sum_inside = (
-        span_le _ _ _ _ _ c.in-Spans.is c.inner_word.ensures.result_in_bounds_2,
-        span_le _ _ _ _ _ c.in-Spans-line_word.is c.line_word.ensures.result_in_bounds_2,
-        further _ _ _ (omega arith) next (line-behind _ _ _ kind _ _ item _ _ coef _ _ left _ _ of _ _ right),
+        c.in_ok-left.ensures.result_in_bounds_2,
+        c.in_ok-right.ensures.result_in_bounds_2,
+        further s a.at c.in_ok-right.right.next (omega arith) next (line-behind (drop a.at s) c.in_ok-kind.kind.value (drop c.in_ok-kind.kind.next s) (sym c.in_ok-kind.ensures.result_value) c.in_ok-item.item.value (drop c.in_ok-item.item.next s) (sym c.in_ok-item.ensures.result_value) c.in_ok-coef.coef.value (drop c.in_ok-coef.coef.next s) (sym c.in_ok-coef.ensures.result_value) (part s c.in_ok-coef.coef.next c.in_ok-left.left.len) (drop c.in_ok-left.left.next s) (sym c.in_ok-left.ensures.result_value) c.in_ok-of.of.value (drop c.in_ok-of.of.next s) (sym c.in_ok-of.ensures.result_value) (part s c.in_ok-of.of.next c.in_ok-right.right.len) (lines (drop c.in_ok-right.right.next s)) (sym c.in_ok-right.ensures.result_value)),
         next,
       );
     }

@@ -1,9 +1,6 @@
-use Prim.Native.Nat.{◌-◌, ◌≤◌}
+use Prim.Native.Nat.{◌-◌}
 use Rattle.tabulating.specs.Filled.{Filled}
 use Rattle.tabulating.proofs.sections.put_falling.Given as goal
 
 abbrev pub invariant-loop-k : goal.invariant-loop-k
-invariant-loop-k l = (l.k ≤ l.n) × Filled l.a l.k (λ i. l.x - i) l.initial.t l.t
-
-abbrev pub decreases-loop-k : goal.decreases-loop-k
-decreases-loop-k l = l.n - l.k
+invariant-loop-k l = Filled l.a l.k (λ i. l.x - i) l.initial.t l.t

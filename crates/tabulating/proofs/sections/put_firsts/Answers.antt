@@ -6,16 +6,16 @@ use borrow.Author.Rules.{rules}
 use Rattle.tabulating.proofs.sections.put_firsts.Goals as goal
 
 pub loop-j-init : goal.loop-j-init
-loop-j-init c = (search rules, filled_none 208 _ c.args.t.now)
+loop-j-init c = filled_none 208 _ c.args.t.now
 
 pub loop-j-preserved : goal.loop-j-preserved
 loop-j-preserved c =
     let l = c.loop-j in
     let size = c.requires.0 in
-    (search rules, filled_more 208 l.j (λ i. get_or c.args.firsts.now i 0) c.args.t.now l.t _ l.invariant.1 (search rules) refl)
+    filled_more 208 l.j (λ i. get_or c.args.firsts.now i 0) c.args.t.now l.t _ l.invariant (search rules) refl
 
 pub returns : goal.returns
 returns c =
     let l = c.loop-j in
     let e : l.j ≡ c.args.n = search rules in
-    rw e at l.invariant.1
+    rw e at l.invariant

@@ -7,4 +7,4 @@ use Rattle.tabulating.proofs.sections.put_head.Goals as goal
 pub returns : goal.returns
 returns c =
     let size = c.requires in
-    filled_six (head_entry c.args.h c.args.m) c.args.t.now (omega arith)
+    rw (c.from.ensures, c.from-2.ensures, c.from-3.ensures, c.from-4.ensures) (filled_six (head_entry c.args.h c.args.m) c.args.t.now (omega arith))

@@ -1,5 +1,5 @@
 -- `put_inverses` stores entry by entry. The loop's invariant: the entries before g are the inverses.
-use mathlib.Core.Path.{◌≡◌}
+use mathlib.Core.Path.{◌≡◌, ◌∙◌}
 use Prim.Native.Nat.{◌+◌, ◌<◌}
 use native.Mathlib.Omega.{arith}
 use lib.ListN.{length, get_or}
@@ -8,7 +8,7 @@ use borrow.Author.Rules.{rules}
 use Rattle.tabulating.proofs.sections.put_inverses.Goals as goal
 
 pub loop-g-init : goal.loop-g-init
-loop-g-init c = (omega arith, filled_none 80 _ c.args.t.now)
+loop-g-init c = filled_none 80 _ c.args.t.now
 
 pub offset_bounds-coefs-a : goal.offset_bounds-coefs-a
 offset_bounds-coefs-a c =
@@ -26,10 +26,10 @@ inv-requires c =
 
 pub loop-g-preserved : goal.loop-g-preserved
 loop-g-preserved c =
-    (search rules, filled_more 80 c.loop-g.g _ c.args.t.now c.loop-g.t c.inv.result c.loop-g.invariant.1 (search rules) c.inv.ensures.0)
+    filled_more 80 c.loop-g.g _ c.args.t.now c.loop-g.t c.from.result c.loop-g.invariant (search rules) (c.from.ensures ∙ c.inv.ensures.0)
 
 pub returns : goal.returns
 returns c =
     let l = c.loop-g in
     let e : l.g ≡ c.args.n = search rules in
-    rw e at l.invariant.1
+    rw e at l.invariant

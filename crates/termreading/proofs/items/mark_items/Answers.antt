@@ -3,33 +3,28 @@ use mathlib.Core.Path.{refl}
 use Prim.Native.Nat.{◌<◌}
 use native.Mathlib.Omega.{arith}
 use lib.ListN.{length}
-use borrow.Author.Rules.{rules}
 use Rattle.package.proofs.ItemStarts.{onward-start, onward-next, stored_next}
 use Rattle.package.specs.Held.{slots_held}
 use Rattle.termreading.proofs.items.mark_items.Goals as goal
 
 pub loop-j-init : goal.loop-j-init
 loop-j-init c =
-    let a = c.args in
-    (search rules, search rules, search rules, search rules, onward-start (slots_held a.h a.kinds.now a.items.now a.n), λ i z. absurd (omega arith))
+    let a = c.args in record {
+      within = omega arith;
+      onward = onward-start (slots_held a.h a.kinds.now a.items.now a.n);
+      stored = λ i z. absurd (omega arith);
+    }
 
 pub loop-j-preserved : goal.loop-j-preserved
 loop-j-preserved c =
     let x = c.loop-j in
     let a = c.args in
-    let q = onward-next (slots_held a.h a.kinds.now a.items.now a.n) x.m x.j _ x.invariant.4 c.skip_terms-m.ensures.value in
-    let l : x.j < length x.firsts = omega
-    (arith, x.invariant.3, x.invariant.2, c.requires.gens_bound.0, c.requires.gens_bound.1, c.loop-j-test.true) in (
-      search rules,
-      search rules,
-      search rules,
-      search rules,
-      q.1,
-      stored_next (slots_held a.h a.kinds.now a.items.now a.n)
-          x.firsts _ x.j _ refl l q.0 x.invariant.5,
-    )
+    let q = onward-next (slots_held a.h a.kinds.now a.items.now a.n) x.m x.j _ x.invariant.onward c.skip_terms-m.ensures.value in
+    let l : x.j < length x.firsts = omega arith in record {
+      within = c.skip_terms-m.ensures.upper_bound;
+      onward = q.1;
+      stored = stored_next (slots_held a.h a.kinds.now a.items.now a.n) x.firsts _ x.j _ refl l q.0 x.invariant.stored;
+    }
 
 pub returns : goal.returns
-returns c =
-    let x = c.loop-j in
-    λ j h. x.invariant.5 j (omega (arith, x.invariant.2, c.loop-j-test.false))
+returns c = λ j h. c.loop-j.invariant.stored j (omega arith)

@@ -8,19 +8,15 @@ use Rattle.text.specs.Pieces.{lines}
 use Rattle.termreading.proofs.term_lines.read_terms.Given as goal
 
 abbrev pub invariant-loop-h : goal.invariant-loop-h
-invariant-loop-h l =
-    (l.at ≤ length l.s)
-    × (l.line ≤ l.at + 4)
-    × ((l.n ≤ 1024) × (length l.s ≤ 65536) × (l.m.terms ≤ 65536))
-    × (length l.kinds ≡ 1024)
-    × (length l.items ≡ 1024)
-    × (length l.coefs ≡ 1024)
-    × (length l.starts ≡ 1024)
-    × (length l.lens ≡ 1024)
-    × (l.last.count ≤ l.m.terms)
-    × (l.last.start + l.last.len ≤ length l.s)
-    × (block2 l.h l.m (above_of l.s l.last) (held_terms l.s l.kinds l.items l.coefs l.starts l.lens l.n) l.line (lines (drop l.at l.s)) ≡ block2 l.h l.m start [] l.first (lines (drop l.from l.s)))
-    × WordsInside l.s l.starts l.lens l.n
+invariant-loop-h l = record {
+  in_text : l.at ≤ length l.s;
+  line_bound : l.line ≤ l.at + 4;
+  n_bound : l.n ≤ 1024;
+  count_bound : l.last.count ≤ l.m.terms;
+  last_inside : l.last.start + l.last.len ≤ length l.s;
+  block : block2 l.h l.m (above_of l.s l.last) (held_terms l.s l.kinds l.items l.coefs l.starts l.lens l.n) l.line (lines (drop l.at l.s)) ≡ block2 l.h l.m start [] l.first (lines (drop l.from l.s));
+  words : WordsInside l.s l.starts l.lens l.n;
+}
 
 abbrev pub decreases-loop-h : goal.decreases-loop-h
 decreases-loop-h l = length l.s - l.at

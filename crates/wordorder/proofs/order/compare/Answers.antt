@@ -2,7 +2,10 @@
 use mathlib.Core.Path.{◌≡◌, sym, ◌∙◌}
 use native.Mathlib.Omega.{arith}
 use Rattle.wordorder.specs.Block.{block_at}
-use Rattle.wordorder.proofs.OrderTurns.{order_shorter, order_longer, order_level, letter-later, letter_earlier, letter-equal, letters-end}
+use Rattle.std.specs.declared.cmp.Ordering.TheVariants.{Equal}
+use Rattle.words.proofs.Lexicographic.{number_cmp}
+use Rattle.wordorder.proofs.OrderTurns.{order_shorter, order_longer, order_level, letter-equal, letters-end}
+use Rattle.wordorder.proofs.Numbers.{letter-number}
 use Rattle.wordorder.proofs.Blocks.{block-equal, block-differs}
 use borrow.Author.Rules.{rules}
 use Rattle.wordorder.proofs.order.compare.Goals as goal
@@ -19,8 +22,8 @@ returns-then-x-y c =
     let d : (block_at c.args.u.now l.i ≡ block_at c.args.v.now l.i → ⊥) = λ e. c.if-x-y.true (c.block-x.ensures ∙ e ∙ sym c.block-y.ensures) in
     let size = l.invariant.0 in
     let more = c.loop-i-test.true in
-    c.decide.ensures
-    ∙ rw (c.block-x.ensures, c.block-y.ensures) (block-differs _ _ (λ j. omega (arith, c.shared_slice_known-1.given j)) (λ j. omega (arith, c.shared_slice_known-2-1.given j)) l.i (omega arith) (omega arith) d)
+    number_cmp Equal c.cmp.ensures (λ e. c.if-x-y.true (sym e))
+    ∙ rw (c.block-x.ensures, c.block-y.ensures) (block-differs _ _ (λ j. omega (arith, c.type_inv.u j)) (λ j. omega (arith, c.type_inv.v j)) l.i (omega arith) (omega arith) d)
     ∙ l.invariant.2
     ∙ sym (order_level _ _ size)
 
@@ -32,27 +35,23 @@ loop-i-preserved c =
     let more = c.loop-i-test.true in (
       size,
       omega arith,
-      block-equal _ _ (λ j. omega (arith, c.shared_slice_known-1.given j)) (λ j. omega (arith, c.shared_slice_known-2-1.given j)) l.i (omega arith) (omega arith) same ∙ l.invariant.2,
+      block-equal _ _ (λ j. omega (arith, c.type_inv.u j)) (λ j. omega (arith, c.type_inv.v j)) l.i (omega arith) (omega arith) same ∙ l.invariant.2,
     )
 
-pub returns-then-u-i-2 : goal.returns-then-u-i-2
-returns-then-u-i-2 c =
-    let i = c.loop-i-2.i in
-    sym (order_level _ _ c.loop-i-2.invariant.0
-    ∙ sym c.loop-i-2.invariant.2
-    ∙ letter_earlier _ _ i (omega arith) (omega arith) (omega (arith, c.shared_slice_known-in-loop-i-2-1.given i)) (omega (arith, c.shared_slice_known-in-loop-i-2-2-1.given i)) c.if-u-i-2.true)
+pub returns-then-u-j : goal.returns-then-u-j
+returns-then-u-j c =
+    let j = c.loop-j.j in
+    let u = c.args.u.now in
+    let v = c.args.v.now in
+    number_cmp _ c.cmp-then-u-j.ensures (λ e. c.if-u-j.true (sym e))
+    ∙ letter-number u v j (omega arith) (omega arith) (omega (arith, c.type_inv.u j)) (omega (arith, c.type_inv.v j))
+    ∙ c.loop-j.invariant.2
+    ∙ sym (order_level u v c.loop-j.invariant.0)
 
-pub returns-then-u-i : goal.returns-then-u-i
-returns-then-u-i c =
-    let i = c.loop-i-2.i in
-    sym (order_level _ _ c.loop-i-2.invariant.0
-    ∙ sym c.loop-i-2.invariant.2
-    ∙ letter-later _ _ i (omega arith) (omega arith) (omega (arith, c.shared_slice_known-in-loop-i-2-1.given i)) (omega (arith, c.shared_slice_known-in-loop-i-2-2-1.given i)) (omega arith))
-
-pub loop-i-2-preserved : goal.loop-i-2-preserved
-loop-i-2-preserved c =
-    (c.loop-i-2.invariant.0, search rules, letter-equal _ _ c.loop-i-2.i (omega arith) (omega arith) (omega arith) ∙ c.loop-i-2.invariant.2)
+pub loop-j-preserved : goal.loop-j-preserved
+loop-j-preserved c =
+    (c.loop-j.invariant.0, search rules, letter-equal _ _ c.loop-j.j (omega arith) (omega arith) (omega arith) ∙ c.loop-j.invariant.2)
 
 pub returns : goal.returns
 returns c =
-    sym (order_level _ _ c.loop-i-2.invariant.0 ∙ sym c.loop-i-2.invariant.2 ∙ letters-end _ _ c.loop-i-2.i (omega arith) (omega arith))
+    sym (order_level _ _ c.loop-j.invariant.0 ∙ sym c.loop-j.invariant.2 ∙ letters-end _ _ c.loop-j.j (omega arith) (omega arith))

@@ -11,8 +11,5 @@ invariant-loop-i l =
 abbrev pub decreases-loop-i : goal.decreases-loop-i
 decreases-loop-i l = length l.u - l.i
 
-abbrev pub invariant-loop-i-2 : goal.invariant-loop-i-2
-invariant-loop-i-2 l = ((length l.u ≡ length l.v) × (l.i ≤ length l.u) × (by_letters letter_rank (drop l.i l.u) (drop l.i l.v) ≡ by_letters letter_rank l.u l.v))
-
-abbrev pub decreases-loop-i-2 : goal.decreases-loop-i-2
-decreases-loop-i-2 l = length l.u - l.i
+abbrev pub invariant-loop-j : goal.invariant-loop-j
+invariant-loop-j l = (length l.u ≡ length l.v) × (l.j ≤ length l.u) × (by_letters letter_rank (drop l.j l.u) (drop l.j l.v) ≡ by_letters letter_rank l.u l.v)

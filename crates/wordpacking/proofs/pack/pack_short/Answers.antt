@@ -19,13 +19,13 @@ returns c =
     let f = code_in a.t.now in
     let x = a.text.now in
     let w = take a.n (drop a.from x) in
-    let r = c.lesser-r.result in
-    let m = c.lesser-r.ensures in
+    let r = c.min-r.result in
+    let m = c.min-r.ensures in
     let size = length-map w f ∙ part_length a.from a.n x c.requires.keys.1 in
-    let u = c.pack_block.ensures ∙ ap (λ (k : ℕ). window (map f (take r (drop k x))) 0) (sym (add-zero a.from))
+    let u = c.pack_block-first.ensures ∙ ap (λ (k : ℕ). window (map f (take r (drop k x))) 0) (sym (add-zero a.from))
     ∙ block_of_text f x a.from a.n 0 0 r c.requires.keys.1 (omega arith) (omega arith) in
-    let v = c.pack_block-2.ensures
+    let v = c.pack_block-second.ensures
     ∙ block_of_text f x a.from a.n 12 r (a.n - r) c.requires.keys.1 (omega arith) (omega arith) in record {
       value = c.even_size.ensures ∙ size-even a.t.now c.requires.keys.0 x a.from a.n c.requires.keys.1 c.requires.all.0;
-      dst_after = short-packed (map f w) a.dst.now _ _ c.requires.all.1 (omega arith) u v;
+      dst_after = short-packed (map f w) _ _ (omega arith) u v;
     }

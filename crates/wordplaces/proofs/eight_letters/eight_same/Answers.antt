@@ -4,4 +4,4 @@ use Rattle.wordplaces.proofs.eight_letters.eight_same.Goals as goal
 
 pub returns : goal.returns
 returns c =
-    eight_same _ _ _ _ c.eight_at-a.result c.eight_at-b.result c.eight_at-a.ensures c.eight_at-b.ensures
+    eight_same _ _ _ _ c.eight_at.result c.eight_at-2.result c.eight_at.ensures c.eight_at-2.ensures

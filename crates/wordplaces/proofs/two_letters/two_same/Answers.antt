@@ -1,7 +1,9 @@
 -- `two_same` is `two_same`.
-use Rattle.wordplaces.proofs.TwoLetters.{two_same_lem}
+use native.Mathlib.Omega.{arith}
+use Rattle.wordplaces.proofs.TwoLetters.{two_read_same}
 use Rattle.wordplaces.proofs.two_letters.two_same.Goals as goal
 
 pub returns : goal.returns
 returns c =
-    two_same_lem _ _ _ _ c.wide_u64-a.result c.wide_u64-b.result c.wide_u64-c.result c.wide_u64-d.result c.wide_u64-a.ensures c.wide_u64-b.ensures c.wide_u64-c.ensures c.wide_u64-d.ensures
+    two_read_same c.args.u.now c.args.v.now _ _ c.from_le_bytes.result c.from_le_bytes-2.result
+    (λ k. omega (arith, c.type_inv.u k)) (λ k. omega (arith, c.type_inv.v k)) c.from_le_bytes.ensures c.from_le_bytes-2.ensures

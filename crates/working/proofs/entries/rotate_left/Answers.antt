@@ -1,22 +1,8 @@
--- `rotate_left` moves entry k to m. The loop's invariant: the entries before i have moved.
-use Rattle.working.proofs.RotationLeft.{shift-left-turn, shift-left-start, moved_left}
-use borrow.Author.Rules.{rules}
+-- `rotate_left` turns the part between the two entries.
+use Rattle.working.proofs.RotationLeft.{moved_left}
 use Rattle.working.proofs.entries.rotate_left.Goals as goal
-
-pub loop-i-init : goal.loop-i-init
-loop-i-init c = (search rules, search rules, search rules, search rules, shift-left-start c.args.a.now c.args.k)
-
-pub loop-i-preserved : goal.loop-i-preserved
-loop-i-preserved c =
-    let z = c.args in (
-      search rules,
-      search rules,
-      search rules,
-      search rules,
-      shift-left-turn z.a.now c.loop-i.a z.k c.loop-i.i (search rules) (search rules) c.loop-i.invariant.4,
-    )
 
 pub returns : goal.returns
 returns c =
-    let z = c.args in
-    moved_left z.a.now c.loop-i.a z.k z.m c.loop-i.i _ c.loop-i.invariant.2 (search rules) (search rules) c.loop-i.invariant.3 c.loop-i.invariant.4
+    let e = c.rotate_left.ensures in
+    moved_left _ _ c.args.k c.args.m c.requires.0 c.requires.1 e.len e.by_index

@@ -1,2 +1,0 @@
--- The laws that this crate's functions are proved by.
-pub mod KeptBytes

@@ -1,7 +1,0 @@
--- `is_newline_at` is `eqb` of the byte at the place and a newline: behind the end that byte is 0.
-use Prim.Native.Nat.{ℕ}
-use lib.ListN.{get_or-eq_default}
-use Rattle.sumreading.proofs.line_end.is_newline_at.Goals as goal
-
-pub returns : goal.returns
-returns c = rw (get_or-eq_default {A = ℕ} _ 0 c.if-i-s.false)
