@@ -40,11 +40,18 @@ pub fn put_word(out: &mut [u8], at: usize, w: &[u8]) -> usize
     put_bytes(out, at, written(w))
 }
 
-// How many digits a number has.
+// How many digits a number has. Counted by dividing, and not by `ilog10`, which took a list of many pairs a tenth longer: most numbers have one digit
+// or two.
 pub fn number_len(n: u64) -> usize
     ensures { result ≡ length (write_number n) }
 {
-    n.max(1).ilog10() as usize + 1
+    let mut k = 1;
+    let mut m = n;
+    while 10 <= m {
+        m = m / 10;
+        k += 1;
+    }
+    k
 }
 
 // The last digit of a number.
