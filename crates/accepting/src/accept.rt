@@ -36,7 +36,8 @@ pub fn accept(package: &[u8], t: &mut Table, f: &mut WorkingFormula) -> Result<u
     let head = read.head;
     let mut heads = [0usize; 64];
     let mut headlens = [0usize; 64];
-    judge_basis(
+    // The refusal is returned by name, and not by `?`, so that an edit can return something else in its place (must-fail/unsound-basis-taken.edit).
+    if let Err(refusal) = judge_basis(
         &coefs,
         &starts,
         &lens,
@@ -46,7 +47,9 @@ pub fn accept(package: &[u8], t: &mut Table, f: &mut WorkingFormula) -> Result<u
         head.basis as usize,
         &mut heads,
         &mut headlens,
-    )?;
+    ) {
+        return Err(refusal);
+    }
     tabulate(
         t, head, &coefs, &starts, &lens, package, &firsts, read.terms,
     );

@@ -110,6 +110,10 @@ module _ (t bytes : List ℕ) (from first : ℕ) where
     abbrev this : Verdict
     this = by kind
 
+    -- what judging the kind k answers
+    abbrev judged : ℕ → Verdict
+    judged k = sums_judged (side_in t k).number k K O (family (side_in t k).others) ss (side_in t k).targets 1
+
     step : KindStep t kind
     step = kind-step t kind d.some l
 
@@ -121,15 +125,17 @@ module _ (t bytes : List ℕ) (from first : ℕ) where
         ∙ ap (λ (ks : List Side). row_verdict K O ks (basis_in t) ss) (sym step.front)
         ∙ d.row
 
-    pub kinds_refused : (r : Refusal) (count : ℕ) → verdict_of {A = Behind} (Err r) ≡ this → Err r ≡ answer_of all count
+    -- The kind k that was judged is the next one. Refused, its refusal is the answer;
+    pub kinds_refused : (k : ℕ) (r : Refusal) (count : ℕ) → verdict_of {A = Behind} (Err r) ≡ judged k → k ≡ kind → Err r ≡ answer_of all count
     unfolding verdict_of
-    kinds_refused r count v = refused-answer all r count
+    kinds_refused k r count u e = let v = rw e at u in refused-answer all r count
         (sym in_parts ∙ then-refused this (row_verdict K O (left t (kind + 1)) (basis_in t) ss) r.number r.place (sym v))
 
-    pub kinds_next : (b : Behind) → verdict_of (Ok b) ≡ this → LeftBehind (head_in t) kind (length (side_in t kind).targets) bytes ss (Ok b)
+    -- passed, the row behind it is left.
+    pub kinds_next : (k : ℕ) (b : Behind) → verdict_of (Ok b) ≡ judged k → LeftBehind (head_in t) k (length (side_in t k).targets) bytes ss (Ok b) → k ≡ kind
         → KindsDone b.at b.line (kind + 1)
     unfolding verdict_of LeftBehind
-    kinds_next b v (reached, p) = record {
+    kinds_next k b u m e = let v = rw e at u in let (reached, p) = rw e at m in record {
       some = omega arith;
       most = omega arith;
       reached = rw (add-one kind) (reached_next (head_in t) kind (length (side_in t kind).targets + 1) step.over bytes b.at b.line reached);

@@ -44,8 +44,12 @@ pub fn check(
         at: from,
         line: first,
     };
+    // A refusal is returned by name, and not by `?`, so that an edit can return something else in its place (must-fail/wrong-sums-accepted.edit).
     for kind in [SUM_B, SUM_G] {
-        behind = judge_sums(t, kind, words.bytes, behind.at, behind.line, f)?;
+        behind = match judge_sums(t, kind, words.bytes, behind.at, behind.line, f) {
+            Ok(behind) => behind,
+            Err(refusal) => return Err(refusal),
+        };
     }
     judge_laps(t, words, behind.at, behind.line, f)
 }

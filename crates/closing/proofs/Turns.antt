@@ -57,7 +57,7 @@ module _ (xs : List Term) (n : ℕ) (fits : n ≤ length xs) where
   }
 
   module _ (ys : List Term) (j i : ℕ) (s : State xs n ys j i) where
-    inside : n ≤ length ys
+    pub inside : n ≤ length ys
     inside = let e = s.len in omega arith
 
     -- The term at i is dropped.

@@ -15,13 +15,13 @@ module _ (t : List ℕ) (x : ℕ) (left right : Word) (end : ℕ) where
   unfolding terms
   placed-none G i = refl
 
-  -- one term more
-  pub placed-next : (g f whole : Poly) (i y : ℕ) (v : Word) → i < end → g ++ rest t x left right end i ≡ whole → y ≡ (field_in t).mul x (coef_in t i)
-      → v ≡ around left right (word_in t i) → f ≡ g ++ (single y v ∷ []) → f ++ rest t x left right end (i + 1) ≡ whole
-  placed-next g f whole i y v h held q e d =
+  -- one term more: that is placed which is next
+  pub placed-next : (g f whole : Poly) (i j y : ℕ) (v : Word) → i < end → g ++ rest t x left right end i ≡ whole → y ≡ (field_in t).mul x (coef_in t j)
+      → v ≡ around left right (word_in t j) → j ≡ i → f ≡ g ++ (single y v ∷ []) → f ++ rest t x left right end (i + 1) ≡ whole
+  placed-next g f whole i j y v h held q e same d =
       ap (λ (p : Poly). p ++ rest t x left right end (i + 1)) d
       ∙ append_assoc g (single y v ∷ []) (rest t x left right end (i + 1))
-      ∙ ap (λ (p : Poly). g ++ p) (sym (rest-next t x left right end i y v h q e))
+      ∙ ap (λ (p : Poly). g ++ p) (sym (rest-next t x left right end i y v h (rw same at q) (rw same at e)))
       ∙ held
 
   pub placed_end : (f whole : Poly) (i : ℕ) → end ≤ i → f ++ rest t x left right end i ≡ whole → f ≡ whole

@@ -60,7 +60,7 @@ pub fn judge_sums(
         place_item(t, 1, none, target, none, f, &mut product);
         while let Some(s) = item_line(next, kind, item) {
             pack_sides(t, bytes, s, &mut left, &mut right);
-            let j = k.others + s.of as usize;
+            let j = k.others + s.of;
             take_item(t, s.coef, &left, j, 0, &right, f, 0, &mut product);
             let over = 512 < f.terms;
             if over {

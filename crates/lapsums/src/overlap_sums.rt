@@ -69,7 +69,7 @@ pub fn judge_overlaps(
         start_lap(t, pair, lined, &mut lap, f);
         while let Some(s) = item_line(next, SUM_O, item) {
             pack_sides(t, words.bytes, s, &mut left, &mut right);
-            let under = is_under(t, s.of as usize, &left, &right, &lap, &mut product);
+            let under = is_under(t, s.of, &left, &right, &lap, &mut product);
             let fails = !under;
             if fails {
                 return Err(Refusal {
@@ -77,7 +77,7 @@ pub fn judge_overlaps(
                     place: line,
                 });
             }
-            let j = base + s.of as usize;
+            let j = base + s.of;
             take_item(t, s.coef, &left, j, 0, &right, f, 0, &mut product);
             let over = 512 < f.terms;
             if over {

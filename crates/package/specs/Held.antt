@@ -151,7 +151,7 @@ SumInside s at (Some t) = (t.left + t.left_len ≤ length s) × (t.right + t.rig
 -- What line n of the text s is judged: block 3 ends with a refusal, or it goes on behind the line.
 unfoldable pub seen_sum_judged : Head → Limits → List ℕ → ℕ → Result SumAt Refusal → Answer (Unit {0})
 unfolding block3 pieces
-seen_sum_judged h lim s n (Err r) = refused r.number r.place
+seen_sum_judged h lim s n (Err r) = refused r.number n
 seen_sum_judged h lim s n (Ok t) = block3 h lim t.kind t.item (suc n) (lines (drop t.next s))
 
 -- If it stands at the place at, it ends behind the place.

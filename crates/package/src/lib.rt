@@ -87,11 +87,11 @@ pub struct TermsAt {
 #[derive(Clone, Copy)]
 pub struct SumAt {
     pub kind: u32,
-    pub item: u32,
+    pub item: usize,
     pub coef: u32,
     pub left: usize,
     pub left_len: usize,
-    pub of: u32,
+    pub of: usize,
     pub right: usize,
     pub right_len: usize,
     pub next: usize,

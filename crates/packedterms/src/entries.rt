@@ -10,6 +10,19 @@ use packing::product::copy_place;
 use working::entries::{rotate_left, rotate_right};
 
 impl WorkingFormula {
+    // Stores the coefficient x and a word of the size, which is in the first six of the blocks, at the place that entry i names.
+    pub fn put_blocks(&mut self, i: usize, x: u32, size: usize, blocks: &[u64])
+        requires { (i < 560) × (get_or self.old.places i 0 < 560) × (size < 4294967296) × (6 ≤ length blocks.now) }
+        ensures stored { Stored self.old.coefs self.old.sizes self.old.blocks (get_or self.old.places i 0) x size (take 6 blocks.now)
+            self.new.coefs self.new.sizes self.new.blocks }
+        ensures entries { (self.new.places ≡ self.old.places) × (self.new.terms ≡ self.old.terms) }
+    {
+        let s = usize::from(self.places[i]);
+        self.coefs[s] = x;
+        self.sizes[s] = size as u32;
+        copy_place(&mut self.blocks, s * 6, blocks);
+    }
+
     // Stores the coefficient x and the word, of which six blocks count, at the place that entry i names.
     pub fn put_at<const N: usize>(&mut self, i: usize, x: u32, word: &PackedWord<N>)
         requires { (i < 560) × (get_or self.old.places i 0 < 560) × (word.now.size < 4294967296) × (6 ≤ N) }
@@ -17,10 +30,7 @@ impl WorkingFormula {
             self.new.coefs self.new.sizes self.new.blocks }
         ensures entries { (self.new.places ≡ self.old.places) × (self.new.terms ≡ self.old.terms) }
     {
-        let s = usize::from(self.places[i]);
-        self.coefs[s] = x;
-        self.sizes[s] = word.size as u32;
-        copy_place(&mut self.blocks, s * 6, &word.blocks);
+        self.put_blocks(i, x, word.size, &word.blocks);
     }
 
     // Puts a term behind the others: the coefficient x and the word, of which six blocks count, at the first free place.

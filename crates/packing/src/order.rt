@@ -7,6 +7,7 @@ ghost use Rattle.packedwords.specs.Codes.{itself};
 use std::cmp::Ordering;
 
 // How the k blocks of u from block `at` on stand to the k blocks of v from block `bt` on.
+#[tactic(auto, using(crate::proofs::PartOrder::blocks_cmp))]
 pub fn compare(u: &[u64], at: usize, v: &[u64], bt: usize, k: usize) -> Ordering
     requires { (at + k ≤ length u.now) × (bt + k ≤ length v.now) }
     ensures { result ≡ by_letters itself (take k (drop at u.now)) (take k (drop bt v.now)) }

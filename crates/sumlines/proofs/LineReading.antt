@@ -31,7 +31,7 @@ none-held n (piece l ls) q k = go (sum_form (fields l)) q k
     go no_sum u v = none_lower (suc n) n ls (omega arith) v
     go (sum k' i c l' o r) u v = absurd (let y : ◌≡◌ {A = ℕ} 0 1 = cc in omega arith)
 
-line-none : (bytes : List ℕ) (at : ℕ) → next_sum (lines (drop at bytes)) ≡ none_sum → (n : ℕ)
+pub line-none : (bytes : List ℕ) (at : ℕ) → next_sum (lines (drop at bytes)) ≡ none_sum → (n : ℕ)
     → NumberedFrom n (sums_at bytes at n) → held_from bytes n None ≡ sums_at bytes at n
 unfolding held_from
 line-none bytes at q n k = sym (none-held n (lines (drop at bytes)) q k)
@@ -51,7 +51,7 @@ some-held n k i c l o r ls (piece x ms) q = go (sum_form (fields x)) refl q
         let w : ls ≡ ms = cc in
         ap₂ (λ f (zs : Pieces). with_sum n f (sums_of (suc n) zs)) (p ∙ sym e) w
 
-line-sum : (bytes : List ℕ) (at k i c a m o b l e : ℕ) → next_sum (lines (drop at bytes)) ≡ some_sum k i c (part bytes a m) o (part bytes b l) (lines (drop e bytes))
+pub line-sum : (bytes : List ℕ) (at k i c a m o b l e : ℕ) → next_sum (lines (drop at bytes)) ≡ some_sum k i c (part bytes a m) o (part bytes b l) (lines (drop e bytes))
     → (n : ℕ)
     → held_from bytes n (Some (record { kind = k; item = i; coef = c; left = a; left_len = m; of = o; right = b; right_len = l; next = e })) ≡ sums_at bytes at n
 unfolding held_from with_sum

@@ -13,7 +13,7 @@ use package::{Refusal, SUM_O, SumAt};
 fn is_above(s: SumAt, count: usize) -> bool
     ensures { result ≡ above_count count s.kind s.item }
 {
-    s.kind == SUM_O && count < s.item as usize
+    s.kind == SUM_O && count < s.item
 }
 
 // 15 for the first O line, from the place from on, whose item is above the count. The line there has the number first.

@@ -21,5 +21,5 @@ pub fn item_line(next: Option<SumAt>, kind: u32, item: usize) -> Option<SumAt>
     ensures same { IfSome result (λ s. next ≡ Some s) }
     ensures of_item { (bytes : List ℕ) (n : ℕ) → is_some result ≡ first_is kind item (held_from bytes n next) }
 {
-    next.filter(|s| s.kind == kind && s.item as usize == item)
+    next.filter(|s| s.kind == kind && s.item == item)
 }

@@ -1,7 +1,8 @@
 // Block 3: sum lines, with refusals 2, 5 and 6 in each.
 
-ghost use Rattle.std.specs.Prelude.{◌≡◌, ℕ, ◌+◌, ◌≤◌, ◌<◌, length, drop};
+ghost use Rattle.std.specs.Prelude.{◌≡◌, ℕ, ◌+◌, ◌≤◌, ◌<◌, length, drop, IfErr};
 ghost use Rattle.text.specs.Pieces.{lines, part};
+ghost use Rattle.text.specs.Bytes.{within};
 ghost use Rattle.package.specs.Sums.{sum_item_fits, ofs, sum_fits, sum_follows, block3};
 ghost use Rattle.package.specs.Held.{next_sum, seen_sum, SumInside, seen_sum_judged, JudgedInside, seen_sums};
 
@@ -10,7 +11,6 @@ use kindreading::kind::inner_rank;
 use linetests::bounds::{coef_fits, word_fits};
 use numberreading::number::inner_number;
 use package::{Head, Limits, Refusal, SUM_B, SUM_G, SumAt};
-use text::bytes::is_within;
 use wordreading::word::inner_word;
 
 // The sum line from the place at on: kind item coef left of right. Its fields are read from the text: no field has a newline in it,
@@ -28,27 +28,34 @@ pub fn read_sum(s: &[u8], at: usize) -> Option<SumAt>
     let right = line_word(s, of.next)?;
     Some(SumAt {
         kind: kind.value,
-        item: item.value,
+        item: item.value as usize,
         coef: coef.value,
         left: coef.next,
         left_len: left.len,
-        of: of.value,
+        of: of.value as usize,
         right: of.next,
         right_len: right.len,
         next: right.next,
     })
 }
 
+// Whether x is one of 1, .., most.
+fn is_one_of(most: u32, x: usize) -> bool
+    ensures { result ≡ within 1 most x }
+{
+    (1..=most as usize).contains(&x)
+}
+
 // Whether the item of a sum line is in bounds.
 #[tactic(auto, unfolding(package::specs::Sums::sum_item_fits))]
-fn sum_item_fits(h: Head, kind: u32, item: u32) -> bool
+fn sum_item_fits(h: Head, kind: u32, item: usize) -> bool
     ensures { result ≡ sum_item_fits h kind item }
 {
     if kind == SUM_B {
-        return is_within(1, h.basis, item);
+        return is_one_of(h.basis, item);
     }
     if kind == SUM_G {
-        return is_within(1, h.gens, item);
+        return is_one_of(h.gens, item);
     }
     1 <= item
 }
@@ -70,14 +77,14 @@ fn sum_fits(h: Head, m: Limits, s: &[u8], t: SumAt) -> bool
 {
     sum_item_fits(h, t.kind, t.item)
         && coef_fits(h.p, t.coef)
-        && is_within(1, ofs_of(h, t.kind), t.of)
+        && is_one_of(ofs_of(h, t.kind), t.of)
         && word_fits(m.len, h.letters, &s[t.left..t.left + t.left_len])
         && word_fits(m.len, h.letters, &s[t.right..t.right + t.right_len])
 }
 
 // Whether a sum line follows the one above in order.
 #[tactic(auto, unfolding(package::specs::Sums::sum_follows))]
-fn sum_follows(last_kind: u32, last_item: u32, kind: u32, item: u32) -> bool
+fn sum_follows(last_kind: u32, last_item: usize, kind: u32, item: usize) -> bool
     ensures { result ≡ sum_follows last_kind last_item kind item }
 {
     if kind == last_kind {
@@ -91,14 +98,15 @@ pub fn judge_sum(
     h: Head,
     m: Limits,
     last_kind: u32,
-    last_item: u32,
+    last_item: usize,
     s: &[u8],
     at: usize,
     line: usize,
 ) -> Result<SumAt, Refusal>
     requires letters_bound { h.letters ≤ 26 }
     requires at_in_bounds { at < length s.now }
-    ensures result_value { seen_sum_judged h m s.now line result ≡ block3 h m last_kind last_item line (lines (drop at s.now)) }
+    ensures by_index { (n : ℕ) → seen_sum_judged h m s.now n result ≡ block3 h m last_kind last_item n (lines (drop at s.now)) }
+    ensures place { IfErr result (λ r. r.place ≡ line) }
     ensures judged_inside { JudgedInside s.now at result }
 {
     let Some(t) = read_sum(s, at) else {

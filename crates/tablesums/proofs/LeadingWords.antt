@@ -24,22 +24,22 @@ module _ {t heads headlens bytes : List ℕ} (h : HeadsIn t heads headlens bytes
   lead-length : (g : ℕ) → g < basis_count_in t → length (lead_in t (suc g)) ≡ get_or headlens g 0
   lead-length g l = ap length (lead-laid g l) ∙ laid-word-length heads headlens bytes (basis_count_in t) h.laid g l
 
+  -- so the second leading word of a pair begins in the first, or at its end, and has the shared letters
+  pub lapping : (f : PairAt) → FoundAt headlens (basis_count_in t) f → Lapping t f
+  lapping f v =
+      let w = v.within_first in
+      let x = v.within-second in
+      let e = lead-length f.first v.first in
+      let d = lead-length f.second v.second in
+      record { first = v.first; second = v.second; begins = omega arith; shares = omega arith }
+
 -- As a value the leading words are what they are in the lists.
 pub leads-in : (t : List ℕ) (words : LeadingWords) → words.count ≡ basis_count_in t → HeadsIn t words.starts.now words.lens.now words.bytes.now → LeadsIn t words
 leads-in t words e h = record { count = e; leading = rw e h.leading }
 
-module _ {t : List ℕ} {words : LeadingWords} (h : LeadsIn t words) where
-  heads : HeadsIn t words.starts.now words.lens.now words.bytes.now
-  heads = record { laid = rw h.count at words.laid; leading = rw h.count at h.leading }
-
-  -- so the second leading word of a pair begins in the first, or at its end, and has the shared letters
-  pub lapping : (f : PairAt) → FoundAt words.lens.now words.count f → Lapping t f
-  lapping f v =
-      let w = v.within_first in
-      let x = v.within-second in
-      let n = h.count in
-      let i = v.first in
-      let j = v.second in
-      let e = lead-length heads f.first (omega arith) in
-      let d = lead-length heads f.second (omega arith) in
-      record { first = omega arith; second = omega arith; begins = omega arith; shares = omega arith }
+-- and the second leading word of a pair lies so to the first
+pub lapping_in : {t : List ℕ} {words : LeadingWords} → LeadsIn t words → (f : PairAt) → FoundAt words.lens.now words.count f → Lapping t f
+lapping_in {t} {words} h f v = lapping heads f (rw h.count at v)
+  where
+    heads : HeadsIn t words.starts.now words.lens.now words.bytes.now
+    heads = record { laid = rw h.count at words.laid; leading = rw h.count at h.leading }

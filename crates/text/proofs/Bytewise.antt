@@ -3,9 +3,11 @@ use mathlib.Core.Path.{◌≡◌, refl, sym, ap, ◌∙◌}
 use mathlib.Core.Bool.{Bool, true, false, false≢true}
 use mathlib.Core.List.{List, [], ◌∷◌}
 use Prim.Native.Nat.{ℕ, suc, ◌+◌, ◌≤◌, ◌<◌}
+use native.Mathlib.Numerals.{add-one}
 use native.Mathlib.Omega.{arith}
 use lib.Dec.{ltb, eqb}
-use lib.ListN.{length, get_or}
+use lib.ListN.{length, get_or, drop, drop_of_length-le}
+use lib.Seq.{drop-cons}
 use borrow.Author.Tests.{lt-ltb, le-ltb, eq-eqb, ne_eqb, ltb-false}
 use Rattle.text.specs.Bytes.{within, all_within}
 use Rattle.lists.specs.Same.{same}
@@ -14,6 +16,31 @@ use lib.Pointwise.{pointwise}
 use Rattle.std.specs.Prelude.{Option, Some, None, nat_eq, IsTrue, ◌↔◌, option_map, position}
 use Rattle.std.proofs.lemmas.Iterator.Adapters.{position_from-zero}
 use Rattle.std.specs.List.{list_all, position_from}
+
+-- Two lists hold the same bytes.
+module _ (a b : List ℕ) (i : ℕ) where
+  pub same_here : i < length a → i < length b → get_or a i 0 ≡ get_or b i 0 → same (drop (i + 1) a) (drop (i + 1) b) ≡ same (drop i a) (drop i b)
+  unfolding same
+  same_here h k e = rw (drop-cons a i 0, drop-cons b i 0, same, eq-eqb (get_or a i 0) (get_or b i 0) e, add-one i)
+
+  pub same_not : i < length a → i < length b → (get_or a i 0 ≡ get_or b i 0 → ⊥) → same (drop i a) (drop i b) ≡ false
+  unfolding same
+  same_not h k n = rw (drop-cons a i 0, drop-cons b i 0, same, ne_eqb (get_or a i 0) (get_or b i 0) n)
+
+  pub same_end : length a ≤ i → length b ≤ i → same (drop i a) (drop i b) ≡ true
+  unfolding same
+  same_end h k = rw (drop_of_length-le a, drop_of_length-le b)
+
+pub same-lengths : (a b : List ℕ) → (length a ≡ length b → ⊥) → same a b ≡ false
+unfolding same
+same-lengths [] [] n = absurd (n refl)
+same-lengths [] (y ∷ b) n = refl
+same-lengths (x ∷ a) [] n = refl
+same-lengths (x ∷ a) (y ∷ b) n = go (eqb x y) (same-lengths a b (λ e. n (ap suc e)))
+  where
+    go : (t : Bool) → same a b ≡ false → ◌≡◌ {A = Bool} (elim t [ true ↦ same a b | false ↦ false ]) false
+    go true e = e
+    go false e = refl
 
 -- Two lists hold the same bytes, as the library compares them.
 pub pointwise_same : (a b : List ℕ) → pointwise nat_eq a b ≡ same a b

@@ -1,6 +1,7 @@
 // Slices of bytes: the first place of a byte, and tests that look at every byte.
 
 ghost use Rattle.std.specs.Prelude.{◌≡◌, ℕ, ◌+◌, ◌≤◌, length, drop};
+ghost use Rattle.lists.specs.Same.{same};
 ghost use Rattle.text.specs.Pieces.{stop};
 ghost use Rattle.text.specs.Bytes.{within, all_within};
 
@@ -16,6 +17,21 @@ pub fn find(s: &[u8], at: usize, b: u8) -> usize
         Some(n) => at + n,
         None => s.len(),
     }
+}
+
+// Whether two slices hold the same bytes, one after the other.
+pub fn is_same(a: &[u8], b: &[u8]) -> bool
+    ensures { result ≡ same a.now b.now }
+{
+    if a.len() != b.len() {
+        return false;
+    }
+    for i in 0..a.len() {
+        if a[i] != b[i] {
+            return false;
+        }
+    }
+    true
 }
 
 // Whether x is one of lo, .., hi.

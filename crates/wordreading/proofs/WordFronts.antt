@@ -50,7 +50,7 @@ letters : (f : List ℕ) → (length f ≡ 0 → ⊥) → all_within 97 122 f �
 letters f h e = rw (write_letters f h) at (read-written-word f e)
 
 -- The letters are the library's lower case letters.
-lowercase-within : (x : ℕ) → is_ascii_lowercase x ≡ within 97 122 x
+pub lowercase-within : (x : ℕ) → is_ascii_lowercase x ≡ within 97 122 x
 lowercase-within x = let h : IsTrue (is_ascii_lowercase x) ↔ ((97 ≤ x) × (x ≤ 122)) = search (rules, tests) in within_iff 97 122 x (is_ascii_lowercase x) h
 
 -- The letters of the piece that starts at the place at, read up to the place i: the bytes from i on say whether all are letters.

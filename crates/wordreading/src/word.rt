@@ -9,7 +9,7 @@ ghost use Rattle.text.specs.Answers.{seen_word, len_word, seen_word_at, seen_wor
 
 use fieldreading::ending::ends_at;
 use text::WordAt;
-use text::bytes::all_within;
+use text::bytes::{all_within, is_within};
 
 // The empty word as it is written.
 const DASH: &[u8] = b"-";
@@ -50,7 +50,7 @@ fn letters_until<const END: u8>(s: &[u8], at: usize) -> Option<WordAt>
 {
     for i in at..s.len() {
         let b = s[i];
-        if !b.is_ascii_lowercase() {
+        if !is_within(97, 122, u32::from(b)) {
             if b != END || i == at {
                 return None;
             }

@@ -3,7 +3,6 @@
 pub mod Terms
 pub mod RotationRight
 pub mod RotationLeft
-pub mod WrittenPart
 pub mod Rotations
 pub mod MovedEntries
 pub mod Inserted

@@ -1,16 +1,12 @@
--- Entry k moved to m: where each entry comes from, and what turning a part gives.
-use mathlib.Core.Path.{◌≡◌, ap, ◌∙◌}
+-- Entry k moved to m: where each entry comes from, and what a turn of the loop does.
+use mathlib.Core.Path.{◌≡◌, ◌∙◌}
 use mathlib.Core.List.{List}
-use Prim.Native.Nat.{ℕ, ◌+◌, ◌-◌, ◌≤◌, ◌<◌}
+use Prim.Native.Nat.{ℕ, ◌+◌, ◌≤◌, ◌<◌}
 use native.Mathlib.Decide.{dec_lt, ℕ_discrete}
 use native.Mathlib.Omega.{arith}
-use borrow.Rule.Slice.PartMut.{put_mid}
-use lib.ListN.{length, get_or, take, drop}
+use lib.ListN.{length, get_or, set, length-set}
+use lib.Seq.{get_or-set_same, get_or-set_other}
 use borrow.Author.Tests.{lt-ltb, le-ltb, eq-eqb, ne_eqb}
-use Rattle.std.specs.List.{RotatedLeft}
-use Rattle.lists.proofs.Parts.{part_length}
-use Rattle.lists.proofs.Entries.{part_at}
-use Rattle.working.proofs.WrittenPart.{written-length, written-low, written_mid, written-high}
 use Rattle.working.specs.Rotation.{Moved, shifted_left, rotated_left}
 
 pub shift-left-low : (k i j : ℕ) → j < k → shifted_left k i j ≡ j
@@ -42,41 +38,44 @@ left_mid k m j h q = left_other k m j (λ e. omega arith) ∙ shift-left_mid k m
 pub left-high : (k m j : ℕ) → k ≤ m → m < j → rotated_left k m j ≡ j
 left-high k m j h q = left_other k m j (λ e. omega arith) ∙ shift-left-high k m j (omega arith) (omega arith)
 
--- The part from k to n, turned left by one entry.
-module _ (a b : List ℕ) (k n : ℕ) (h : k ≤ n) (q : n < length a) where
-  abbrev m : ℕ
-  m = n + 1 - k
+-- a turn: entry i comes from one behind
+module _ (a b : List ℕ) (k i : ℕ) (h : k ≤ i) (r : i + 1 < length b) (at : (j : ℕ) → get_or b j 0 ≡ get_or a (shifted_left k i j) 0) where
+  abbrev x : ℕ
+  x = get_or b (i + 1) 0
 
-  abbrev part : List ℕ
-  part = take m (drop k a)
+  pub shift-left-turn : (j : ℕ) → get_or (set b i x) j 0 ≡ get_or a (shifted_left k (i + 1) j) 0
+  shift-left-turn j = go (ℕ_discrete j i) (dec_lt j k) (dec_lt j i)
+    where
+      go : Dec (j ≡ i) → Dec (j < k) → Dec (j < i) → get_or (set b i x) j 0 ≡ get_or a (shifted_left k (i + 1) j) 0
+      go (yes e) d f = rw (
+        e,
+        get_or-set_same b i x 0 (omega arith),
+        at (i + 1),
+        shift-left-high k i (i + 1) (omega arith) (omega arith),
+        shift-left_mid k (i + 1) i h (omega arith),
+      )
+      go (no e) (yes d) f = rw (get_or-set_other b i j x 0 e, at j, shift-left-low k i j d, shift-left-low k (i + 1) j d)
+      go (no e) (no d) (yes f) = rw (get_or-set_other b i j x 0 e, at j, shift-left_mid k i j (omega arith) f, shift-left_mid k (i + 1) j (omega arith) (omega arith))
+      go (no e) (no d) (no f) = rw (
+        get_or-set_other b i j x 0 e,
+        at j,
+        shift-left-high k i j (omega arith) (omega arith),
+        shift-left-high k (i + 1) j (omega arith) (omega arith),
+      )
 
-  part_is : length part ≡ m
-  part_is = part_length k m a (omega arith)
+-- no entry has moved yet
+pub shift-left-start : (a : List ℕ) (k j : ℕ) → get_or a j 0 ≡ get_or a (shifted_left k k j) 0
+shift-left-start a k j = go (dec_lt j k)
+  where
+    go : Dec (j < k) → get_or a j 0 ≡ get_or a (shifted_left k k j) 0
+    go (yes h) = rw (shift-left-low k k j h)
+    go (no h) = rw (shift-left-high k k j (omega arith) (omega arith))
 
-  -- entry j of the part is entry i of the list
-  from_part : (j i : ℕ) → j < m → k + j ≡ i → get_or part j 0 ≡ get_or a i 0
-  from_part j i r e = part_at a k m j r ∙ ap (λ (x : ℕ). get_or a x 0) e
-
-  module _ (e : length b ≡ length part) (turned : RotatedLeft part b (length part) 1) where
-    same : length b ≡ m
-    same = e ∙ part_is
-
-    inside : k + m ≤ length a
-    inside = omega arith
-
-    pub moved_left : Moved (rotated_left k n) a (put_mid k m a b)
-    moved_left = record { size = written-length k m a b inside same; at = λ j. go j (ℕ_discrete j n) (dec_lt j k) (dec_lt j n) }
-      where
-        go : (j : ℕ) → Dec (j ≡ n) → Dec (j < k) → Dec (j < n) → get_or (put_mid k m a b) j 0 ≡ get_or a (rotated_left k n j) 0
-        go j (yes d) f g =
-            rw (left_at k n j d)
-            (written_mid k m a b inside same j (omega arith) (omega arith)
-            ∙ turned.1 (j - k) 0 (omega (arith, part_is)) (omega (arith, part_is))
-            ∙ from_part (j - k + 1 - length part) k (omega (arith, part_is)) (omega (arith, part_is)))
-        go j (no d) (yes f) g = rw (left-low k n j h f) (written-low k m a b inside same j f)
-        go j (no d) (no f) (yes g) =
-            rw (left_mid k n j (omega arith) g)
-            (written_mid k m a b inside same j (omega arith) (omega arith)
-            ∙ turned.0 (j - k) 0 (omega (arith, part_is))
-            ∙ from_part (j - k + 1) (j + 1) (omega arith) (omega arith))
-        go j (no d) (no f) (no g) = rw (left-high k n j h (omega arith)) (written-high k m a b inside same j (omega arith))
+-- all have moved that close up, and the first is stored at m
+pub moved_left : (a b : List ℕ) (k m i x : ℕ) → length b ≡ length a → m < length b → i ≡ m → x ≡ get_or a k 0
+    → ((j : ℕ) → get_or b j 0 ≡ get_or a (shifted_left k i j) 0) → Moved (rotated_left k m) a (set b m x)
+moved_left a b k m i x e h d f at = record { size = length-set b m x ∙ e; at = λ j. go j (ℕ_discrete j m) }
+  where
+    go : (j : ℕ) → Dec (j ≡ m) → get_or (set b m x) j 0 ≡ get_or a (rotated_left k m j) 0
+    go j (yes q) = rw (left_at k m j q, q) (get_or-set_same b m x 0 h ∙ f)
+    go j (no q) = rw (left_other k m j q, get_or-set_other b m j x 0 q, ← d) (at j)

@@ -1,16 +1,12 @@
--- Entry n moved to k: where each entry comes from, and what turning a part gives.
-use mathlib.Core.Path.{◌≡◌, ap, ◌∙◌}
+-- Entry n moved to k: where each entry comes from, and what a turn of the loop does.
+use mathlib.Core.Path.{◌≡◌, ◌∙◌}
 use mathlib.Core.List.{List}
-use Prim.Native.Nat.{ℕ, ◌+◌, ◌-◌, ◌≤◌, ◌<◌}
+use Prim.Native.Nat.{ℕ, ◌-◌, ◌≤◌, ◌<◌}
 use native.Mathlib.Decide.{dec_le, ℕ_discrete}
 use native.Mathlib.Omega.{arith}
-use borrow.Rule.Slice.PartMut.{put_mid}
-use lib.ListN.{length, get_or, take, drop}
+use lib.ListN.{length, get_or, set, length-set}
+use lib.Seq.{get_or-set_same, get_or-set_other}
 use borrow.Author.Tests.{le-leb, lt-leb, eq-eqb, ne_eqb}
-use Rattle.std.specs.List.{RotatedRight}
-use Rattle.lists.proofs.Parts.{part_length}
-use Rattle.lists.proofs.Entries.{part_at}
-use Rattle.working.proofs.WrittenPart.{written-length, written-low, written_mid, written-high}
 use Rattle.working.specs.Rotation.{Moved, shifted_right, rotated_right}
 
 pub shift-right-low : (i n j : ℕ) → j ≤ i → shifted_right i n j ≡ j
@@ -42,41 +38,44 @@ right_mid k n j h q = right_other k n j (λ e. omega arith) ∙ shift-right_mid 
 pub right-high : (k n j : ℕ) → k ≤ n → n < j → rotated_right k n j ≡ j
 right-high k n j h q = right_other k n j (λ e. omega arith) ∙ shift-right-high k n j (omega arith) q
 
--- The part from k to n, turned right by one entry.
-module _ (a b : List ℕ) (k n : ℕ) (h : k ≤ n) (q : n < length a) where
-  abbrev m : ℕ
-  m = n + 1 - k
+-- a turn: entry i comes from one before
+module _ (a b : List ℕ) (i n : ℕ) (h : 0 < i) (q : i ≤ n) (r : n < length b) (at : (j : ℕ) → get_or b j 0 ≡ get_or a (shifted_right i n j) 0) where
+  abbrev x : ℕ
+  x = get_or b (i - 1) 0
 
-  abbrev part : List ℕ
-  part = take m (drop k a)
+  pub shift-right-turn : (j : ℕ) → get_or (set b i x) j 0 ≡ get_or a (shifted_right (i - 1) n j) 0
+  shift-right-turn j = go (ℕ_discrete j i) (dec_le j (i - 1)) (dec_le j n)
+    where
+      go : Dec (j ≡ i) → Dec (j ≤ i - 1) → Dec (j ≤ n) → get_or (set b i x) j 0 ≡ get_or a (shifted_right (i - 1) n j) 0
+      go (yes e) d f = rw (
+        e,
+        get_or-set_same b i x 0 (omega arith),
+        at (i - 1),
+        shift-right-low i n (i - 1) (omega arith),
+        shift-right_mid (i - 1) n i (omega arith) q,
+      )
+      go (no e) (yes d) f = rw (get_or-set_other b i j x 0 e, at j, shift-right-low i n j (omega arith), shift-right-low (i - 1) n j d)
+      go (no e) (no d) (yes f) = rw (get_or-set_other b i j x 0 e, at j, shift-right_mid i n j (omega arith) f, shift-right_mid (i - 1) n j (omega arith) f)
+      go (no e) (no d) (no f) = rw (
+        get_or-set_other b i j x 0 e,
+        at j,
+        shift-right-high i n j (omega arith) (omega arith),
+        shift-right-high (i - 1) n j (omega arith) (omega arith),
+      )
 
-  part_is : length part ≡ m
-  part_is = part_length k m a (omega arith)
+-- no entry has moved yet
+pub shift-right-start : (a : List ℕ) (n j : ℕ) → get_or a j 0 ≡ get_or a (shifted_right n n j) 0
+shift-right-start a n j = go (dec_le j n)
+  where
+    go : Dec (j ≤ n) → get_or a j 0 ≡ get_or a (shifted_right n n j) 0
+    go (yes h) = rw (shift-right-low n n j h)
+    go (no h) = rw (shift-right-high n n j (omega arith) (omega arith))
 
-  -- entry j of the part is entry i of the list
-  from_part : (j i : ℕ) → j < m → k + j ≡ i → get_or part j 0 ≡ get_or a i 0
-  from_part j i r e = part_at a k m j r ∙ ap (λ (x : ℕ). get_or a x 0) e
-
-  module _ (e : length b ≡ length part) (turned : RotatedRight part b (length part) 1) where
-    same : length b ≡ m
-    same = e ∙ part_is
-
-    inside : k + m ≤ length a
-    inside = omega arith
-
-    pub moved_right : Moved (rotated_right k n) a (put_mid k m a b)
-    moved_right = record { size = written-length k m a b inside same; at = λ j. go j (ℕ_discrete j k) (dec_le j k) (dec_le j n) }
-      where
-        go : (j : ℕ) → Dec (j ≡ k) → Dec (j ≤ k) → Dec (j ≤ n) → get_or (put_mid k m a b) j 0 ≡ get_or a (rotated_right k n j) 0
-        go j (yes d) f g =
-            rw (right_at k n j d)
-            (written_mid k m a b inside same j (omega arith) (omega arith)
-            ∙ turned.0 (j - k) 0 (omega arith)
-            ∙ from_part (length part - 1 + (j - k)) n (omega (arith, part_is)) (omega (arith, part_is)))
-        go j (no d) (yes f) g = rw (right-low k n j (omega arith)) (written-low k m a b inside same j (omega arith))
-        go j (no d) (no f) (yes g) =
-            rw (right_mid k n j (omega arith) g)
-            (written_mid k m a b inside same j (omega arith) (omega arith)
-            ∙ turned.1 (j - k) 0 (omega arith) (omega (arith, part_is))
-            ∙ from_part (j - k - 1) (j - 1) (omega arith) (omega arith))
-        go j (no d) (no f) (no g) = rw (right-high k n j h (omega arith)) (written-high k m a b inside same j (omega arith))
+-- all have moved that make room, and the last is stored at k
+pub moved_right : (a b : List ℕ) (k n i x : ℕ) → length b ≡ length a → k < length b → i ≡ k → x ≡ get_or a n 0
+    → ((j : ℕ) → get_or b j 0 ≡ get_or a (shifted_right i n j) 0) → Moved (rotated_right k n) a (set b k x)
+moved_right a b k n i x e h d f at = record { size = length-set b k x ∙ e; at = λ j. go j (ℕ_discrete j k) }
+  where
+    go : (j : ℕ) → Dec (j ≡ k) → get_or (set b k x) j 0 ≡ get_or a (rotated_right k n j) 0
+    go j (yes q) = rw (right_at k n j q, q) (get_or-set_same b k x 0 h ∙ f)
+    go j (no q) = rw (right_other k n j q, get_or-set_other b k j x 0 q, ← d) (at j)

@@ -43,10 +43,9 @@ build-requires c =
     let g = c.loop-i.invariant.0 in
     let t = c.loop-i-test.true in
     let (l, r, fits) = c.requires.sixfold in
-    let short = fits.short c.loop-i.i (omega (arith, g.count, c.first_in-first.ensures)) (omega (arith, t, end_is)) in
     record {
       tabled = (c.requires.tabled.0, omega (arith, t, g.most));
-      sixfold = (l, r, short);
+      sixfold = (l, r, fits.short _ (omega (arith, g.count, c.first_in-first.ensures)) (omega (arith, t, end_is)));
     }
 
 pub put_last-requires : goal.put_last-requires
@@ -73,7 +72,7 @@ loop-i-preserved c =
     let next : HoldsIn t' c.put_last.new.self = rw (c.put_last.ensures.entries.0, c.put_last.ensures.entries.1) (last-holds _ _ _ _ _ _ _ _ _ _ _ _ held free six own put) in (
       record { most = g.most; few = g.few; low = omega arith; count = search rules },
       next,
-      rw (c.put_last.ensures.entries.0, c.put_last.ensures.entries.1) (placed-next t' a.x left right c.first_in-end.result _ _ _ m.i _ _ t sum c.scaled_coef-z.ensures.0 c.build.ensures.word more),
+      rw (c.put_last.ensures.entries.0, c.put_last.ensures.entries.1) (placed-next t' a.x left right c.first_in-end.result _ _ _ m.i _ _ _ t sum c.scaled_coef-z.ensures.0 c.build.ensures.word (omega arith) more),
     )
 
 pub returns : goal.returns

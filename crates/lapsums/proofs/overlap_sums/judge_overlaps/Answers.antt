@@ -11,7 +11,7 @@ use Rattle.overlapsearch.proofs.SeenPairs.{walk_start, walk_few, walk_found, wal
 use Rattle.sumorder.proofs.NextLine.{next-line, next_low, next-further}
 use Rattle.table.specs.Table.{basis_count_in, items_in}
 use Rattle.tablesums.proofs.Fitting.{short-fits}
-use Rattle.tablesums.proofs.LeadingWords.{lapping}
+use Rattle.tablesums.proofs.LeadingWords.{lapping_in}
 use Rattle.tablelies.proofs.SumWords.{line-words}
 use Rattle.basis.specs.Answer.{verdict_of}
 use Rattle.lapsums.specs.Judged.{LapsBehind}
@@ -40,7 +40,7 @@ overflow_add-item c =
 pub start_lap-requires : goal.start_lap-requires
 start_lap-requires c =
     let (tabled, leading) = c.requires.tabled in
-    record { tabled = (tabled, lapping leading _ (walk_found _ _ _ _ _ _ c.items.invariant.0 _ c.in-Some.is)); arranged = c.items.invariant.2 }
+    record { tabled = (tabled, lapping_in leading _ (walk_found _ _ _ _ _ _ c.items.invariant.0 _ c.in-Some.is)); arranged = c.items.invariant.2 }
 
 pub loop-s-init : goal.loop-s-init
 loop-s-init c =

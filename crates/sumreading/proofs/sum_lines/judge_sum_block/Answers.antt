@@ -11,7 +11,9 @@ pub returns-in_err-t : goal.returns-in_err-t
 unfolding seen_sums seen_sum_judged
 returns-in_err-t c =
     let p = err_from_is_err_and c.from_residual.result c.from_residual.ensures.1 in
-    rw (p.1, p.2) (c.in_err-t.ensures.result_value ∙ c.loop-at.invariant.block)
+    let x = c.loop-at in
+    let e = c.in_err-t.ensures in
+    rw (p.1, p.2, e.place) (e.by_index x.line ∙ x.invariant.block)
 
 pub loop-at-smaller : goal.loop-at-smaller
 unfolding JudgedInside
@@ -27,7 +29,7 @@ loop-at-preserved c =
     record {
       in_text = j.1;
       line_bound = omega (arith, j.0);
-      block = rw (add-one x.line) (c.in_ok-t.ensures.result_value ∙ x.invariant.block);
+      block = rw (add-one x.line) (c.in_ok-t.ensures.by_index x.line ∙ x.invariant.block);
     }
 
 pub returns : goal.returns

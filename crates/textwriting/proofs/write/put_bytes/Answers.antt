@@ -1,15 +1,16 @@
--- `put_bytes`: bytes copied to a part of a slice are a run of stores.
-use mathlib.Core.Path.{◌≡◌}
-use mathlib.Core.List.{List, append_assoc}
-use Prim.Native.Nat.{ℕ, ◌+◌, ◌-◌, ◌≤◌}
+-- `put_bytes`: storing what is left from here on gives what storing all gives.
+use mathlib.Core.Path.{◌≡◌, sym, ◌∙◌}
+use Prim.Native.Nat.{◌+◌}
 use native.Mathlib.Omega.{arith}
-use lib.ListN.{length}
-use lib.Seq.{sets, sets-eq}
-use borrow.Rule.Slice.PartMut.{put_mid, Post-is}
+use borrow.Author.Rules.{rules}
+use Rattle.lists.proofs.Stores.{sets_more, sets_none}
 use Rattle.textwriting.proofs.write.put_bytes.Goals as goal
 
-put_mid-sets : (xs ys : List ℕ) (a : ℕ) → a + length ys ≤ length xs → put_mid a (a + length ys - a) xs ys ≡ sets xs a ys
-put_mid-sets xs ys a h = rw (Post-is a (a + length ys) xs (omega arith), sets-eq ys xs a h, append_assoc)
+pub loop-i-preserved : goal.loop-i-preserved
+loop-i-preserved c =
+    let o = c.args.at + c.loop-i.i in
+    let e : c.args.at + (c.loop-i.i + 1) ≡ o + 1 = omega arith in
+    rw e (sets_more _ c.loop-i.out c.loop-i.i o (search rules) ∙ c.loop-i.invariant)
 
 pub returns-clause-out_after : goal.returns-clause-out_after
-returns-clause-out_after c = rw c.copy_from_slice.ensures.after (put_mid-sets _ _ _ c.requires)
+returns-clause-out_after c = sym (sets_none _ c.loop-i.out c.loop-i.i (c.args.at + c.loop-i.i) c.loop-i-test.false) ∙ c.loop-i.invariant
