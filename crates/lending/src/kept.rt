@@ -10,6 +10,13 @@ pub fn count_kept(out: &[u8], from: usize) -> usize
     if out.len() <= from {
         return 0;
     }
-    // Not `skip(from)`, which counts in every turn: the stored cases took a third longer.
-    out[from..].iter().filter(|&&b| b == b'~').count()
+    let mut n = 0;
+    // Not by `filter` and `count`, with which the stored cases took a quarter longer.
+    for &b in &out[from..] {
+        let kept = b == b'~';
+        if kept {
+            n += 1;
+        }
+    }
+    n
 }
