@@ -94,6 +94,7 @@ fn sum_follows(last_kind: u32, last_item: usize, kind: u32, item: usize) -> bool
 }
 
 // The line of block 3 that starts at the place at and has the number line: refusals 2, 5, 6, or the sum line.
+#[tactic(auto, using(crate::proofs::SumTurns::sums_on), unfolding(package::specs::Held::seen_sum, package::specs::Held::SumInside, package::specs::Held::seen_sum_judged, package::specs::Held::JudgedInside))]
 pub fn judge_sum(
     h: Head,
     m: Limits,

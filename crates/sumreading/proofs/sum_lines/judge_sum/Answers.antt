@@ -1,7 +1,7 @@
 -- `judge_sum` reads and judges a line as `block3` does.
 use mathlib.Core.Path.{refl, sym, ◌∙◌}
 use Rattle.package.specs.Held.{seen_sum, SumInside, seen_sum_judged, JudgedInside}
-use Rattle.sumreading.proofs.SumTurns.{sums_none, sums_5, sums_6, sums_on}
+use Rattle.sumreading.proofs.SumTurns.{sums_none, sums_5, sums_6}
 use Rattle.sumreading.proofs.sum_lines.judge_sum.Goals as goal
 
 pub returns-in_default : goal.returns-in_default
@@ -39,16 +39,4 @@ returns-then-not-sum_follows c =
           (sym c.sum_fits.ensures ∙ c.if-not-sum_fits.false) (sym c.sum_follows.ensures ∙ c.if-not-sum_follows.true);
       place = refl;
       judged_inside = tt;
-    }
-
-pub returns : goal.returns
-unfolding seen_sum SumInside seen_sum_judged JudgedInside
-returns c =
-    let a = c.args in
-    let i = c.in-Some.ensures.sum_inside in record {
-      by_index = λ n.
-          sums_on a.h a.m a.last_kind a.last_item n _ _ _ _ _ _ _ a.s.now a.at (sym c.in-Some.ensures.result_value)
-          (sym c.sum_fits.ensures ∙ c.if-not-sum_fits.false) (sym c.sum_follows.ensures ∙ c.if-not-sum_follows.false);
-      place = tt;
-      judged_inside = (i.2, i.3);
     }
