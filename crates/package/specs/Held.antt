@@ -148,6 +148,10 @@ unfoldable pub SumInside : List ℕ → ℕ → Option SumAt → Type 0
 SumInside s at None = Unit {0}
 SumInside s at (Some t) = (t.left + t.left_len ≤ length s) × (t.right + t.right_len ≤ length s) × (at < t.next) × (t.next ≤ length s)
 
+-- The item of a sum line and the number of the polynomial that it names have at most 32 bits.
+abbrev pub Numbers32 : SumAt → Type 0
+Numbers32 t = (t.item < 4294967296) × (t.of < 4294967296)
+
 -- What line n of the text s is judged: block 3 ends with a refusal, or it goes on behind the line.
 unfoldable pub seen_sum_judged : Head → Limits → List ℕ → ℕ → Result SumAt Refusal → Answer (Unit {0})
 unfolding block3 pieces

@@ -3,3 +3,5 @@
 
 pub mod item_lines;
 pub mod sum_line;
+#[cfg(test)]
+mod tests;

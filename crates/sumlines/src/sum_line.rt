@@ -1,6 +1,7 @@
 // The sum line that stands at a place of the bytes.
 
 ghost use Rattle.std.specs.Prelude.{◌≡◌, List, ℕ, ◌≤◌, length, is_some, IfSome};
+ghost use Rattle.package.specs.Held.{Numbers32};
 ghost use Rattle.sumlines.specs.Lines.{sums_at, held_from, NumberedFrom, first_is, Inside};
 
 use package::SumAt;
@@ -11,6 +12,7 @@ pub fn line_at(bytes: &[u8], at: usize) -> Option<SumAt>
     requires { at ≤ length bytes.now }
     ensures by_index { (n : ℕ) → NumberedFrom n (sums_at bytes.now at n) → held_from bytes.now n result ≡ sums_at bytes.now at n }
     ensures inside { IfSome result (λ s. Inside bytes.now at s) }
+    ensures numbers { IfSome result Numbers32 }
 {
     read_sum(bytes, at)
 }

@@ -3,3 +3,5 @@
 
 pub mod line_end;
 pub mod sum_lines;
+#[cfg(test)]
+mod tests;

@@ -1,10 +1,10 @@
 // Block 3: sum lines, with refusals 2, 5 and 6 in each.
 
-ghost use Rattle.std.specs.Prelude.{◌≡◌, ℕ, ◌+◌, ◌≤◌, ◌<◌, length, drop, IfErr};
+ghost use Rattle.std.specs.Prelude.{◌≡◌, ℕ, ◌+◌, ◌≤◌, ◌<◌, length, drop, IfErr, IfOk, IfSome};
 ghost use Rattle.text.specs.Pieces.{lines, part};
 ghost use Rattle.text.specs.Bytes.{within};
 ghost use Rattle.package.specs.Sums.{sum_item_fits, ofs, sum_fits, sum_follows, block3};
-ghost use Rattle.package.specs.Held.{next_sum, seen_sum, SumInside, seen_sum_judged, JudgedInside, seen_sums};
+ghost use Rattle.package.specs.Held.{next_sum, seen_sum, Numbers32, SumInside, seen_sum_judged, JudgedInside, seen_sums};
 
 use crate::line_end::line_word;
 use kindreading::kind::inner_rank;
@@ -19,6 +19,7 @@ pub fn read_sum(s: &[u8], at: usize) -> Option<SumAt>
     requires { at ≤ length s.now }
     ensures result_value { seen_sum s.now result ≡ next_sum (lines (drop at s.now)) }
     ensures sum_inside { SumInside s.now at result }
+    ensures numbers { IfSome result Numbers32 }
 {
     let kind = inner_rank(b"BGO", s, at)?;
     let item = inner_number(s, kind.next)?;
@@ -109,6 +110,7 @@ pub fn judge_sum(
     ensures by_index { (n : ℕ) → seen_sum_judged h m s.now n result ≡ block3 h m last_kind last_item n (lines (drop at s.now)) }
     ensures place { IfErr result (λ r. r.place ≡ line) }
     ensures judged_inside { JudgedInside s.now at result }
+    ensures numbers { IfOk result Numbers32 }
 {
     let Some(t) = read_sum(s, at) else {
         return Err(Refusal {

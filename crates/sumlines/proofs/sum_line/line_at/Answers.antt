@@ -8,4 +8,5 @@ returns c =
     record {
       by_index = read-held c.args.bytes.now c.args.at _ r.result_value;
       inside = read-inside c.args.bytes.now c.args.at _ r.sum_inside;
+      numbers = r.numbers;
     }

@@ -11,6 +11,7 @@ returns-in_default c =
       by_index = λ n. sums_none a.h a.m a.last_kind a.last_item n a.s.now a.at c.requires.at_in_bounds (sym c.in_default.ensures.result_value);
       place = refl;
       judged_inside = tt;
+      numbers = tt;
     }
 
 pub sum_fits-requires-clause-words_inside : goal.sum_fits-requires-clause-words_inside
@@ -28,6 +29,7 @@ returns-then-not-sum_fits c =
           (sym c.sum_fits.ensures ∙ c.if-not-sum_fits.true);
       place = refl;
       judged_inside = tt;
+      numbers = tt;
     }
 
 pub returns-then-not-sum_follows : goal.returns-then-not-sum_follows
@@ -39,4 +41,5 @@ returns-then-not-sum_follows c =
           (sym c.sum_fits.ensures ∙ c.if-not-sum_fits.false) (sym c.sum_follows.ensures ∙ c.if-not-sum_follows.true);
       place = refl;
       judged_inside = tt;
+      numbers = tt;
     }

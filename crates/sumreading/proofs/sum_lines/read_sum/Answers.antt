@@ -1,6 +1,7 @@
 -- `read_sum` reads what `sum_form` gives, field by field.
 use mathlib.Core.Path.{sym}
 use native.Mathlib.Omega.{arith}
+use borrow.Author.Rules.{rules}
 use lib.ListN.{drop}
 use Rattle.package.specs.Held.{seen_sum, SumInside, seen_line_word}
 use Rattle.text.specs.Answers.{seen_num, next_num, seen_word_at, next_word, span_word}
@@ -16,6 +17,7 @@ returns-in_err-kind c =
     rw c.from_residual.ensures (record {
       result_value = line-kind (drop a.at s) s (sym c.in_err-kind.ensures.result_value);
       sum_inside = tt;
+      numbers = tt;
     })
 
 pub inner_number-requires : goal.inner_number-requires
@@ -30,6 +32,7 @@ returns-in_err-item c =
     rw c.from_residual-in_err-item.ensures (record {
       result_value = line-item (drop a.at s) c.in_ok-kind.kind.value (drop c.in_ok-kind.kind.next s) (sym c.in_ok-kind.ensures.result_value) s (sym c.in_err-item.ensures.result_value);
       sum_inside = tt;
+      numbers = tt;
     })
 
 pub inner_number-requires-2 : goal.inner_number-requires-2
@@ -44,6 +47,7 @@ returns-in_err-coef c =
     rw c.from_residual-in_err-coef.ensures (record {
       result_value = line-coef (drop a.at s) c.in_ok-kind.kind.value (drop c.in_ok-kind.kind.next s) (sym c.in_ok-kind.ensures.result_value) c.in_ok-item.item.value (drop c.in_ok-item.item.next s) (sym c.in_ok-item.ensures.result_value) s (sym c.in_err-coef.ensures.result_value);
       sum_inside = tt;
+      numbers = tt;
     })
 
 pub inner_word-requires : goal.inner_word-requires
@@ -58,6 +62,7 @@ returns-in_err-left c =
     rw c.from_residual-in_err-left.ensures (record {
       result_value = line-left (drop a.at s) c.in_ok-kind.kind.value (drop c.in_ok-kind.kind.next s) (sym c.in_ok-kind.ensures.result_value) c.in_ok-item.item.value (drop c.in_ok-item.item.next s) (sym c.in_ok-item.ensures.result_value) c.in_ok-coef.coef.value (drop c.in_ok-coef.coef.next s) (sym c.in_ok-coef.ensures.result_value) s (sym c.in_err-left.ensures.result_value);
       sum_inside = tt;
+      numbers = tt;
     })
 
 pub inner_number-requires-3 : goal.inner_number-requires-3
@@ -72,6 +77,7 @@ returns-in_err-of c =
     rw c.from_residual-in_err-of.ensures (record {
       result_value = line_of (drop a.at s) c.in_ok-kind.kind.value (drop c.in_ok-kind.kind.next s) (sym c.in_ok-kind.ensures.result_value) c.in_ok-item.item.value (drop c.in_ok-item.item.next s) (sym c.in_ok-item.ensures.result_value) c.in_ok-coef.coef.value (drop c.in_ok-coef.coef.next s) (sym c.in_ok-coef.ensures.result_value) (part s c.in_ok-coef.coef.next c.in_ok-left.left.len) (drop c.in_ok-left.left.next s) (sym c.in_ok-left.ensures.result_value) s (sym c.in_err-of.ensures.result_value);
       sum_inside = tt;
+      numbers = tt;
     })
 
 pub line_word-requires : goal.line_word-requires
@@ -86,6 +92,7 @@ returns-in_err-right c =
     rw c.from_residual-in_err-right.ensures (record {
       result_value = line-right (drop a.at s) c.in_ok-kind.kind.value (drop c.in_ok-kind.kind.next s) (sym c.in_ok-kind.ensures.result_value) c.in_ok-item.item.value (drop c.in_ok-item.item.next s) (sym c.in_ok-item.ensures.result_value) c.in_ok-coef.coef.value (drop c.in_ok-coef.coef.next s) (sym c.in_ok-coef.ensures.result_value) (part s c.in_ok-coef.coef.next c.in_ok-left.left.len) (drop c.in_ok-left.left.next s) (sym c.in_ok-left.ensures.result_value) c.in_ok-of.of.value (drop c.in_ok-of.of.next s) (sym c.in_ok-of.ensures.result_value) s (sym c.in_err-right.ensures.result_value);
       sum_inside = tt;
+      numbers = tt;
     })
 
 pub returns : goal.returns
@@ -101,4 +108,5 @@ returns c =
         further s a.at c.in_ok-right.right.next (omega arith) next (line-behind (drop a.at s) c.in_ok-kind.kind.value (drop c.in_ok-kind.kind.next s) (sym c.in_ok-kind.ensures.result_value) c.in_ok-item.item.value (drop c.in_ok-item.item.next s) (sym c.in_ok-item.ensures.result_value) c.in_ok-coef.coef.value (drop c.in_ok-coef.coef.next s) (sym c.in_ok-coef.ensures.result_value) (part s c.in_ok-coef.coef.next c.in_ok-left.left.len) (drop c.in_ok-left.left.next s) (sym c.in_ok-left.ensures.result_value) c.in_ok-of.of.value (drop c.in_ok-of.of.next s) (sym c.in_ok-of.ensures.result_value) (part s c.in_ok-of.of.next c.in_ok-right.right.len) (lines (drop c.in_ok-right.right.next s)) (sym c.in_ok-right.ensures.result_value)),
         next,
       );
+      numbers = search rules;
     }
