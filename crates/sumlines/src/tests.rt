@@ -3,7 +3,7 @@
 use crate::sum_line::{item_line, line_at};
 use package::{SUM_G, SUM_O, SumAt};
 
-// Two lines, the second at place 13, where the bytes end 16 places on.
+// Two lines, at places 0 and 13; the bytes end at place 29.
 const BYTES: &[u8] = b"G 2 4 ab 3 -\nO 99999 1 - 4 b\n";
 
 // The kind, the item, the polynomial that a line names, and the place behind it.
